@@ -51,13 +51,18 @@ reservation_text (Some r) =
     type_name r.0 ++ codes "/"
     ++ (if is_all_registrants r.0 then codes "ALL" else nexus_text r.1)
 
+-- NUMBER NEXUS WHAT
+abbrev pub asked_text : Record → List ℕ
+asked_text r = decimal r.number ++ codes " " ++ sender_text r.nexus ++ codes " " ++ act_text r.act
+
+-- STAGE CELL RULE STATUS, each after a space
+abbrev pub judged_text : Record → List ℕ
+judged_text r =
+    codes " " ++ decimal (stage_number r.stage)
+    ++ codes " " ++ cell_text_or_dash r.cell
+    ++ codes " " ++ rule_text r.rule
+    ++ codes " " ++ two_digits (status_code r.status)
+
 -- NUMBER NEXUS WHAT STAGE CELL RULE STATUS
 unfoldable pub line_of : Record → List ℕ
-line_of r =
-    decimal r.number ++ codes " "
-    ++ sender_text r.nexus ++ codes " "
-    ++ act_text r.act ++ codes " "
-    ++ decimal (stage_number r.stage) ++ codes " "
-    ++ cell_text_or_dash r.cell ++ codes " "
-    ++ rule_text r.rule ++ codes " "
-    ++ two_digits (status_code r.status)
+line_of r = asked_text r ++ judged_text r

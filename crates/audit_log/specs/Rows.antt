@@ -44,7 +44,7 @@ first_contact = record {
   rule = None;
   status = CheckCondition;
   sense = Some (sense_for PowerOnOrResetOccurred);
-  mode_changed = false;
+  told = None;
 }
 
 -- its second, which nothing refuses

@@ -1,10 +1,14 @@
-ghost use Rattle.std.specs.Prelude.{◌≡◌, ◌++◌, IfOk, OnOk, OnErr, string_bytes};
+ghost use Rattle.std.specs.Prelude.{◌≡◌, ◌++◌, codes, IfOk, OnOk, OnErr, string_bytes};
+ghost use Rattle.std.specs.Fmt.{decimal};
 ghost use Rattle.scsi_sense.specs.Status.{status_code};
 ghost use Rattle.audit_log.specs.Hexadecimal.{two_digits};
-ghost use Rattle.audit_log.specs.Lines.{line_of, sender_text, cell_text_or_dash, rule_text, act_text, reservation_text};
+ghost use Rattle.audit_log.specs.Stages.{stage_number};
+ghost use Rattle.audit_log.specs.Lines.{line_of, asked_text, judged_text, sender_text, cell_text_or_dash, rule_text, act_text, reservation_text};
 
 use crate::act::Act;
 use crate::record::Record;
+use crate::stage::Stage;
+use itoa::Buffer;
 use permit_tables::{Cell, KeyRule, ResType, class_text};
 use scsi_nexus::Nexus;
 use scsi_sense::Status;
@@ -40,24 +44,57 @@ pub fn write_line(alloc: Global, text: &mut String, entry: &Record) -> Result<()
 fn write_parts(text: &mut String, entry: &Record) -> Result<(), AllocError>
     ensures { OnOk result (string_bytes text.new ≡ string_bytes text.old ++ line_of entry.now) }
 {
-    let number = entry.number;
-    write!(text, "{number} ")?;
-    write_nexus(text, entry.nexus)?;
-    let what = act_text(&entry.act);
-    let stage = entry.stage.number();
-    write!(text, " {what} {stage} ")?;
-    write_cell(text, entry.cell)?;
-    let rule = rule_text(entry.rule);
-    write!(text, " {rule} ")?;
-    write_status(text, entry.status)
+    write_asked(text, entry)?;
+    write_judged(text, entry)
 }
 
-#[tactic(auto, using(crate::proofs::StatusDigits::status_digits))]
-fn write_status(text: &mut String, status: Status) -> Result<(), AllocError>
-    ensures { OnOk result (string_bytes text.new ≡ string_bytes text.old ++ two_digits (status_code status)) }
+/// The number, the nexus and what was asked.
+fn write_asked(text: &mut String, entry: &Record) -> Result<(), AllocError>
+    ensures { OnOk result (string_bytes text.new ≡ string_bytes text.old ++ asked_text entry.now) }
 {
-    let code = status.code();
-    write!(text, "{code:02x}")
+    text.push_str(Buffer::new().format(entry.number))?;
+    text.push_str(" ")?;
+    write_nexus(text, entry.nexus)?;
+    text.push_str(" ")?;
+    text.push_str(act_text(&entry.act))
+}
+
+/// The stage, the cell, the rule and the status, each after a space.
+fn write_judged(text: &mut String, entry: &Record) -> Result<(), AllocError>
+    ensures { OnOk result (string_bytes text.new ≡ string_bytes text.old ++ judged_text entry.now) }
+{
+    text.push_str(stage_text(entry.stage))?;
+    write_cell(text, entry.cell)?;
+    text.push_str(" ")?;
+    text.push_str(rule_text(entry.rule))?;
+    text.push_str(status_text(entry.status))
+}
+
+/// The stage's number between spaces.
+#[tactic(auto, using(crate::proofs::StageDigits::stage_digits))]
+fn stage_text(stage: Stage) -> &'static str
+    ensures { result.now ≡ codes " " ++ decimal (stage_number stage) ++ codes " " }
+{
+    match stage {
+        Stage::Decoding => " 1 ",
+        Stage::ResetAttention => " 2 ",
+        Stage::ReservationCheck => " 3 ",
+        Stage::OtherAttention => " 4 ",
+        Stage::Fields => " 5 ",
+        Stage::Device => " 6 ",
+    }
+}
+
+/// A space and the status code in two hexadecimal digits.
+fn status_text(status: Status) -> &'static str
+    ensures { result.now ≡ codes " " ++ two_digits (status_code status) }
+{
+    match status {
+        Status::Good => " 00",
+        Status::CheckCondition => " 02",
+        Status::Busy => " 08",
+        Status::ReservationConflict => " 18",
+    }
 }
 
 fn write_nexus(text: &mut String, nexus: Option<Nexus>) -> Result<(), AllocError>

@@ -3,6 +3,7 @@ use crate::stage::Stage;
 use permit_tables::{Cell, KeyRule};
 use scsi_nexus::Nexus;
 use scsi_sense::{Sense, Status};
+use unit_attention::Kind;
 
 /// What was asked of a unit, and how it was judged and answered (profile). Records don't compare: the room of a list in a box has an address
 /// and a capacity, which its value doesn't have.
@@ -24,8 +25,8 @@ pub struct Record {
     pub status: Status,
     /// The sense data that was answered with it.
     pub sense: Option<Sense>,
-    /// Whether a MODE SELECT changed the block length.
-    pub mode_changed: bool,
+    /// What every other nexus was told: of a MODE SELECT that it changed the mode parameters.
+    pub told: Option<Kind>,
 }
 
 /// The largest size of a record in bytes: a unit keeps one for each command. A record of a command

@@ -11,7 +11,7 @@ use crate::faults::{move_condition, put_fault, take_fault};
 use crate::mode::mode_data;
 use device_server::{BadPlace, DeviceServer, Outcome, Payload, PutFault, TakeFault};
 use element_map::Elements;
-use scsi_cdb::{Kind, Request};
+use scsi_cdb::{Kind, Profile, Request};
 use scsi_sense::Condition;
 use std::alloc::{AllocError, Global};
 use std::marker::Model;
@@ -119,7 +119,8 @@ impl Changer {
             | Request::ReadPosition
             | Request::PersistentReserveIn { .. }
             | Request::PersistentReserveOut { .. }
-            | Request::ReportLuns { .. } => {
+            | Request::ReportLuns { .. }
+            | Request::Host(_) => {
                 Ok(Outcome::check(alloc, Condition::InvalidCommandOperationCode))
             }
         }
@@ -152,6 +153,11 @@ impl DeviceServer for Changer {
 
     fn kind(&self) -> Kind {
         Kind::Changer
+    }
+
+    #[tactic(auto, unfolding(device_server::specs::View::profile_of))]
+    fn profile(&self) -> Profile {
+        Profile::Spec
     }
 
     fn drives(&self) -> u16 {

@@ -2,6 +2,8 @@
 use Rattle.std.specs.Prelude.{◌≡◌, ℕ, List, [], ◌∷◌, ◌++◌, map, length, Option, None, Ok}
 use Rattle.std.specs.List.{flat_map}
 use Rattle.std.specs.Io.KnownBytes.{Consumes, Appends}
+use Rattle.scsi_cdb.specs.declared.profile.Profile.{Profile}
+use Rattle.scsi_cdb.specs.declared.profile.Profile.TheVariants.{Spec}
 use Rattle.scsi_nexus.specs.declared.nexus.Nexus.{Nexus}
 use Rattle.frames.specs.declared.reply_frame.LoginAnswer.TheVariants.{Accepted}
 use Rattle.frames.specs.Frames.{FrameValue, Login, Command, Reset, Logout}
@@ -47,11 +49,15 @@ Tells bytes [] rest = rest ≡ bytes
 Tells bytes (reply ∷ replies) rest =
     (piece others : List ℕ) × (bytes ≡ piece ++ others) × (parsed_reply bytes ≡ Complete reply (length piece)) × Tells others replies rest
 
+-- the profile of the libraries that a host talks to
+abbrev pub profile_of_libraries : Profile
+profile_of_libraries = Spec
+
 -- what is written of the reply to a frame, as a replay writes it; of those to LOGIN and LOGOUT nothing is
 abbrev pub told_text : Explanations → FrameValue → ReplyFrameValue → List ℕ
 told_text explanations (Command lun cdb bytes) (CommandReply status sense number payload) =
-    answer_text explanations lun cdb status sense payload
-told_text explanations (Reset lun) (ResetReply status) = answer_text explanations lun [] status None []
+    answer_text explanations profile_of_libraries lun cdb status sense payload
+told_text explanations (Reset lun) (ResetReply status) = answer_text explanations profile_of_libraries lun [] status None []
 told_text explanations _ _ = []
 
 -- and of the replies to frames, in their order

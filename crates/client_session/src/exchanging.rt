@@ -8,7 +8,11 @@ ghost use Rattle.client_session.specs.Waiting.{Answers, IsOfSending, IsWhy};
 use crate::client_session_fault::ClientSessionFault;
 use frames::{FrameRef, LoginAnswer, ParsedReply, ReplyFrame, parse_reply, write_frame};
 use output_lines::{Explanations, write_explained, write_out};
+use scsi_cdb::Profile;
 use std::io::Write;
+
+/// The profile of the libraries that a host talks to.
+const PROFILE: Profile = Profile::Spec;
 
 /// Sends a frame.
 pub(crate) fn send<W: Write>(
@@ -59,10 +63,10 @@ pub(crate) fn take_reply(
                 ..
             },
         ) => {
-            write_explained(line, words, *lun, cdb, status, &sense, bytes)?;
+            write_explained(line, words, PROFILE, *lun, cdb, status, &sense, bytes)?;
         }
         (FrameRef::Reset { lun }, ReplyFrame::Reset(status)) => {
-            write_explained(line, words, *lun, b"", status, &None, b"")?;
+            write_explained(line, words, PROFILE, *lun, b"", status, &None, b"")?;
         }
         (FrameRef::Logout, ReplyFrame::Logout) => {}
         _ => return Err(ClientSessionFault::BadReply),

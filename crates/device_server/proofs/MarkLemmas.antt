@@ -16,7 +16,7 @@ use Rattle.device_server.specs.View.{DeviceView, Drive, Changer, field_fault, st
 use Rattle.device_server.specs.Ends.{IsSameDevice}
 use Rattle.device_server.specs.Marks.{marks, KeepsMarks, GivesVolume, GetsVolume, SetsMark, CommandsKeepMarks, ResetsKeepMarks, DrivesGive, DrivesGet, ChangersGive, ChangersGet, MarksOne, EachIsMarked}
 use Rattle.device_server.proofs.InAndOut.{drive_taken, drive_put, changer_taken, changer_put, marked_one, marks_at}
-use Rattle.device_server.proofs.SameDevice.{holding_drives, changer_drives, performed_same, reset_same}
+use Rattle.device_server.proofs.SameDevice.{drives_profile, changers_profile, holding_drives, changer_drives, performed_same, reset_same}
 
 -- COMMANDS
 
@@ -64,7 +64,7 @@ resets_keep_marks (Changer e) = record { device = reset_same (Changer e); marks 
 -- VOLUMES IN AND OUT
 
 same_drive : (d : DriveView) (after : DriveView) → IsSameDevice (Drive d) (Drive after)
-same_drive d after = record { kind = refl; drives = refl }
+same_drive d after = record { kind = refl; profile = drives_profile d after; drives = refl }
 
 pub drives_give : DrivesGive
 drives_give (Drive d) after place v k h =
@@ -81,7 +81,7 @@ drives_get (Drive d) after place v k h =
 drives_get (Changer e) after place v k h = absurd cc
 
 held_marks : (e : Elements) (at : Element) (held : Option Volume) → KeepsMarks (Changer e) (Changer (holding e at held))
-held_marks e at held = record { device = record { kind = refl; drives = ap length (holding_drives e at held) }; marks = holding_drives e at held }
+held_marks e at held = record { device = record { kind = refl; profile = changers_profile e _; drives = ap length (holding_drives e at held) }; marks = holding_drives e at held }
 
 pub changers_give : ChangersGive
 changers_give (Drive d) after place v k h = absurd cc
@@ -104,7 +104,7 @@ marks_one (Drive d) after place tag h = absurd cc
 marks_one (Changer e) after place tag h =
     let at = marked_one e place tag after h in
     subst (λ (x : DeviceView). SetsMark (Changer e) x place tag) at.rest (record {
-      device = record { kind = refl; drives = length-set e.data_transfer (place - first_data_transfer) tag };
+      device = record { kind = refl; profile = changers_profile e _; drives = length-set e.data_transfer (place - first_data_transfer) tag };
       first = among_first first_data_transfer (length e.data_transfer) place at.is_drive;
       last = among_last first_data_transfer (length e.data_transfer) place at.is_drive;
       marks = refl;

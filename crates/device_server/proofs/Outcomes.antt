@@ -1,6 +1,6 @@
--- How a device ends a command: GOOD or CHECK CONDITION, and with changed mode parameters only where it is a MODE SELECT that is GOOD.
+-- How a device ends a command: GOOD or CHECK CONDITION, and with something that the others are told only where it is a MODE SELECT that is GOOD.
 use Rattle.std.proofs.Common.{◌≡◌, ℕ, Bool, true, false, List, [], Option, Some, None, Result, Ok, Err, refl, inl, inr}
-use Rattle.std.specs.Prelude.{cond, take, length, ◌==◌, ◌||◌, ◌&&◌, ◌-◌, ◌*◌, nat_le, unsigned_abs}
+use Rattle.std.specs.Prelude.{cond, not, take, length, ◌==◌, ◌||◌, ◌&&◌, ◌-◌, ◌*◌, nat_le, unsigned_abs}
 use Rattle.std.specs.List.{flat_map}
 use Rattle.scsi_cdb.specs.declared.classes.Class.TheVariants.{ModeSelect}
 use Rattle.scsi_cdb.specs.declared.request.Request.{Request}
@@ -23,24 +23,31 @@ use Rattle.tape_medium.specs.declared.item.Item.TheVariants as item
 use Rattle.tape_medium.specs.declared.space.Stop.{Stop}
 use Rattle.tape_medium.specs.declared.space.Stop.TheVariants.{Done, AtMark, AtEnd, AtStart}
 use Rattle.tape_medium.specs.declared.volume.Volume.{Volume}
+use Rattle.unit_attention.specs.declared.kind.Kind.{Kind}
 use Rattle.device_server.specs.declared.outcome.Outcome.{Outcome}
-use Rattle.device_server.specs.Outcomes.{done, ended, refused}
+use Rattle.device_server.specs.Outcomes.{done, told_of_mode, ended, refused}
 use Rattle.device_server.specs.Drive.{DriveView, read_of, reads, run, bytes_of_object, ended_by, end_of_run, reads_fixed, wrote, unless_protected, unless_nothing, is_fixed_transfer, stopped, space_code, position_data, on_tape, in_volume, in_bay, loads, drive_step}
+use Rattle.device_server.specs.Mode.{block_length_after}
 use Rattle.device_server.specs.Changer.{changer_mode_data, moved_alone, carried, changer_step}
 use Rattle.device_server.specs.View.{DeviceView, Drive, Changer, field_fault, stepped, performed}
-use Rattle.device_server.specs.Ends.{IsEnded, IsOwn}
+use Rattle.device_server.specs.Ends.{IsEnded, told_by, IsOwn}
 
 -- of any command but MODE SELECT
 record IsOrdinary (o : Outcome) : Type 0 where
   ended : IsEnded o
-  steady : o.mode_changed ≡ false
+  steady : o.told ≡ None
 
-absurd_mode : (b : Bool) (A : Type 0) → b ≡ false → b ≡ true → A
-absurd_mode true A steady e = absurd cc
-absurd_mode false A steady e = absurd cc
+absurd_told : (o : Option Kind) (kind : Kind) (A : Type 0) → o ≡ None → o ≡ Some kind → A
+absurd_told None kind A steady e = absurd cc
+absurd_told (Some other) kind A steady e = absurd cc
+
+-- a MODE SELECT tells what its class tells, or nothing
+mode_told : (changed : Bool) (kind : Kind) → told_of_mode changed ≡ Some kind → told_by ModeSelect ≡ Some kind
+mode_told true kind e = e
+mode_told false kind e = absurd cc
 
 own : (r : Request) (o : Outcome) → IsOrdinary o → IsOwn r o
-own r o h = record { ended = h.ended; mode = λ e. absurd_mode o.mode_changed ((class_of r ≡ ModeSelect) × (o.status ≡ Good)) h.steady e }
+own r o h = record { ended = h.ended; told = λ kind e. absurd_told o.told kind ((told_by (class_of r) ≡ Some kind) × (o.status ≡ Good)) h.steady e }
 
 done_is : (payload : List ℕ) → IsOrdinary (done payload)
 done_is payload = record { ended = inl (refl, refl); steady = refl }
@@ -131,6 +138,7 @@ tape_is m protected t (request.PersistentReserveOut action scope_type l) bytes =
 tape_is m protected t (request.ReportLuns select l) bytes = refused_is InvalidCommandOperationCode
 tape_is m protected t (request.MoveMedium transport source destination invert) bytes = refused_is InvalidCommandOperationCode
 tape_is m protected t (request.ReadElementStatus voltag type_code start count curdata dvcid l) bytes = refused_is InvalidCommandOperationCode
+tape_is m protected t (request.Host command) bytes = refused_is InvalidCommandOperationCode
 
 bay_is : (d : DriveView) (o : Option Volume) (r : Request) (bytes : List ℕ) → Steps (in_bay d o r bytes)
 bay_is d None r bytes = refused_is MediumNotPresent
@@ -148,16 +156,16 @@ drive_own : (d : DriveView) (r : Request) (bytes : List ℕ) → IsOwn r (drive_
 drive_own d request.TestUnitReady bytes = by_bay d request.TestUnitReady bytes
 drive_own d request.Rewind bytes = by_bay d request.Rewind bytes
 drive_own d (request.RequestSense desc l) bytes = by_bay d (request.RequestSense desc l) bytes
-drive_own d request.ReadBlockLimits bytes = record { ended = inl (refl, refl); mode = λ e. absurd cc }
+drive_own d request.ReadBlockLimits bytes = record { ended = inl (refl, refl); told = λ kind e. absurd cc }
 drive_own d request.InitializeElementStatus bytes = by_bay d request.InitializeElementStatus bytes
 drive_own d (request.Read sili fixed l) bytes = by_bay d (request.Read sili fixed l) bytes
 drive_own d (request.Write fixed l) bytes = by_bay d (request.Write fixed l) bytes
 drive_own d (request.WriteFilemarks wsmk immed l) bytes = by_bay d (request.WriteFilemarks wsmk immed l) bytes
 drive_own d (request.Space code l) bytes = by_bay d (request.Space code l) bytes
 drive_own d (request.Inquiry evpd page l) bytes = by_bay d (request.Inquiry evpd page l) bytes
-drive_own d (request.ModeSelect sp l) bytes = record { ended = inl (refl, refl); mode = λ e. (refl, refl) }
+drive_own d (request.ModeSelect sp l) bytes = record { ended = inl (refl, refl); told = λ kind e. (mode_told (not (block_length_after d.block_length l bytes == d.block_length)) kind e, refl) }
 drive_own d request.Erase bytes = by_bay d request.Erase bytes
-drive_own d (request.ModeSense dbd pc page subpage l) bytes = record { ended = inl (refl, refl); mode = λ e. absurd cc }
+drive_own d (request.ModeSense dbd pc page subpage l) bytes = record { ended = inl (refl, refl); told = λ kind e. absurd cc }
 drive_own d (request.LoadUnload hold eot load) bytes = own (request.LoadUnload hold eot load) (loads d d.bay load).1 (loads_is d d.bay load)
 drive_own d (request.PreventAllowMediumRemoval prevent) bytes = by_bay d (request.PreventAllowMediumRemoval prevent) bytes
 drive_own d (request.Locate bt cp l) bytes = by_bay d (request.Locate bt cp l) bytes
@@ -167,6 +175,7 @@ drive_own d (request.PersistentReserveOut action scope_type l) bytes = by_bay d 
 drive_own d (request.ReportLuns select l) bytes = by_bay d (request.ReportLuns select l) bytes
 drive_own d (request.MoveMedium transport source destination invert) bytes = by_bay d (request.MoveMedium transport source destination invert) bytes
 drive_own d (request.ReadElementStatus voltag type_code start count curdata dvcid l) bytes = by_bay d (request.ReadElementStatus voltag type_code start count curdata dvcid l) bytes
+drive_own d (request.Host command) bytes = by_bay d (request.Host command) bytes
 
 moved_is : (e : Elements) (r : Result Elements MapFault) → Steps (moved_alone e r)
 moved_is e (Ok after) = done_is []

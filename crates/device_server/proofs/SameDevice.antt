@@ -1,7 +1,10 @@
--- A device stays of its kind and keeps its data transfer elements.
+-- A device stays of its kind and profile, and keeps its data transfer elements.
 use Rattle.std.proofs.Common.{◌≡◌, ℕ, List, length, Option, Some, None, refl, ap, ◌∙◌}
+use Rattle.scsi_cdb.specs.declared.kind.Kind.{Kind}
+use Rattle.scsi_cdb.specs.declared.profile.Profile.{Profile}
 use Rattle.scsi_cdb.specs.declared.request.Request.{Request}
 use Rattle.scsi_cdb.specs.declared.request.Request.TheVariants as request
+use Rattle.scsi_cdb.specs.Kinds.{commands}
 use Rattle.scsi_sense.specs.declared.condition.Condition.{Condition}
 use Rattle.tape_medium.specs.declared.volume.Volume.{Volume}
 use Rattle.tape_medium.specs.declared.elements.MapFault.{MapFault}
@@ -9,8 +12,27 @@ use Rattle.tape_medium.specs.Elements.{Elements, Element, Transport, DataTransfe
 use Rattle.device_server.specs.declared.outcome.Outcome.{Outcome}
 use Rattle.device_server.specs.Outcomes.{refused}
 use Rattle.device_server.specs.Changer.{moved_alone, carried, changer_step}
-use Rattle.device_server.specs.View.{DeviceView, Drive, Changer, field_fault, stepped, performed, reset_of}
+use Rattle.device_server.specs.View.{DeviceView, Drive, Changer, kind_of, profile_of, commands_of, field_fault, stepped, performed, reset_of}
+use Rattle.device_server.specs.Drive.{DriveView}
 use Rattle.device_server.specs.Ends.{IsSameDevice}
+
+-- PROFILES, and what follows of commands
+
+pub drives_profile : (before after : DriveView) → profile_of (Drive after) ≡ profile_of (Drive before)
+unfolding profile_of
+drives_profile before after = refl
+
+pub changers_profile : (before after : Elements) → profile_of (Changer after) ≡ profile_of (Changer before)
+unfolding profile_of
+changers_profile before after = refl
+
+pub same_itself : (d : DeviceView) → IsSameDevice d d
+same_itself d = record { kind = refl; profile = refl; drives = refl }
+
+pub same_commands : (before after : DeviceView) → IsSameDevice before after → commands_of after ≡ commands_of before
+same_commands before after same = ap (λ (p : Profile). commands p (kind_of after)) same.profile ∙ ap (λ (k : Kind). commands (profile_of before) k) same.kind
+
+-- COMMANDS AND RESETS
 
 pub holding_drives : (e : Elements) (at : Element) (held : Option Volume) → (holding e at held).data_transfer ≡ e.data_transfer
 holding_drives e Transport held = refl
@@ -41,16 +63,19 @@ changer_drives e (request.MoveMedium transport source destination invert) =
 changer_drives e r = refl
 
 stepped_same : (d : DeviceView) (r : Request) (bytes : List ℕ) → IsSameDevice d (stepped d r bytes).0
-stepped_same (Drive d) r bytes = record { kind = refl; drives = refl }
-stepped_same (Changer e) r bytes = record { kind = refl; drives = ap length (changer_drives e r) }
+stepped_same (Drive d) r bytes = record { kind = refl; profile = drives_profile d _; drives = refl }
+stepped_same (Changer e) r bytes = record { kind = refl; profile = changers_profile e _; drives = ap length (changer_drives e r) }
 
 pub performed_same : (d : DeviceView) (r : Request) (bytes : List ℕ) → IsSameDevice d (performed d r bytes).0
 performed_same d r bytes =
     elim (field_fault d r bytes) as (λ (o : Option Condition). let step : DeviceView × Outcome = elim o [ Some condition ↦ (d, refused condition) | None ↦ stepped d r bytes ] in IsSameDevice d step.0) [
-      | Some condition ↦ record { kind = refl; drives = refl }
+      | Some condition ↦ same_itself d
       | None ↦ stepped_same d r bytes
     ]
 
 pub reset_same : (d : DeviceView) → IsSameDevice d (reset_of d)
-reset_same (Drive d) = record { kind = refl; drives = refl }
-reset_same (Changer e) = record { kind = refl; drives = refl }
+reset_same (Drive d) = record { kind = refl; profile = drives_profile d _; drives = refl }
+reset_same (Changer e) = same_itself (Changer e)
+
+pub reset_profile : (d : DeviceView) → profile_of (reset_of d) ≡ profile_of d
+reset_profile d = (reset_same d).profile

@@ -9,6 +9,7 @@ use Rattle.tape_medium.specs.Settling.{settled_to, unsettled_place, unsettled_el
 use Rattle.device_server.specs.Drive.{DriveView}
 use Rattle.device_server.specs.View.{Drive, Changer}
 use Rattle.device_server.specs.Settled.{unsettled, SettlingChangesNothingElse, StaysTheSameWhenSettled}
+use Rattle.device_server.proofs.SameDevice.{drives_profile, changers_profile}
 
 place-settled : (objects : ℕ) (place : Option Volume) → unsettled_place (option_map (settled_to objects) place) ≡ unsettled_place place
 place-settled objects None = refl
@@ -37,10 +38,10 @@ settling_changes (Drive d) place objects = drive-settled d objects (place == 0)
 settling_changes (Changer e) place objects = sym (ap Changer (element-settled e (element_at e place) objects))
 
 pub same_settled : StaysTheSameWhenSettled
-same_settled (Drive d) (Drive b) same = record { kind = refl; drives = refl }
+same_settled (Drive d) (Drive b) same = record { kind = refl; profile = drives_profile d b; drives = refl }
 same_settled (Drive d) (Changer b) same = cc
 same_settled (Changer e) (Drive b) same = cc
 same_settled (Changer e) (Changer b) same =
     let elements : unsettled_elements e ≡ unsettled_elements b = cc in
     let marks : e.data_transfer ≡ b.data_transfer = ap (λ x. x.data_transfer) elements in
-    record { kind = refl; drives = ap length (sym marks) }
+    record { kind = refl; profile = changers_profile e b; drives = ap length (sym marks) }

@@ -1,24 +1,33 @@
 -- What holds of every end of a command at a device, and what a device stays through it.
-use Rattle.std.specs.Prelude.{◌≡◌, ◌⊎◌, ℕ, true, List, None, IsSome}
+use Rattle.std.specs.Prelude.{◌≡◌, ◌⊎◌, ℕ, List, Option, None, Some, IsSome}
+use Rattle.scsi_cdb.specs.declared.classes.Class.{Class}
 use Rattle.scsi_cdb.specs.declared.classes.Class.TheVariants.{ModeSelect}
 use Rattle.scsi_cdb.specs.declared.request.Request.{Request}
 use Rattle.scsi_cdb.specs.Classes.{class_of}
 use Rattle.scsi_sense.specs.declared.status.Status.TheVariants.{Good, CheckCondition}
+use Rattle.unit_attention.specs.declared.kind.Kind.{Kind}
+use Rattle.unit_attention.specs.declared.kind.Kind.TheVariants.{ModeParametersChanged}
 use Rattle.device_server.specs.declared.outcome.Outcome.{Outcome}
-use Rattle.device_server.specs.View.{DeviceView, kind_of, drives_of, performed, reset_of}
+use Rattle.device_server.specs.View.{DeviceView, kind_of, profile_of, drives_of, performed, reset_of}
 
 -- GOOD without sense data, or CHECK CONDITION with it
 abbrev pub IsEnded : Outcome → Type 0
 IsEnded o = ((o.status ≡ Good) × (o.sense ≡ None)) ⊎ ((o.status ≡ CheckCondition) × IsSome o.sense)
 
--- of a command: only a MODE SELECT that is GOOD changes the mode parameters
+-- what a command of a class may tell every other nexus: a MODE SELECT that the mode parameters changed, and no other anything
+abbrev pub told_by : Class → Option Kind
+told_by ModeSelect = Some ModeParametersChanged
+told_by class = None
+
+-- of a command: only one that is GOOD tells the others something, and only what its class tells
 pub record IsOwn (r : Request) (o : Outcome) : Type 0 where
   pub ended : IsEnded o
-  pub mode : o.mode_changed ≡ true → (class_of r ≡ ModeSelect) × (o.status ≡ Good)
+  pub told : (kind : Kind) → o.told ≡ Some kind → (told_by (class_of r) ≡ Some kind) × (o.status ≡ Good)
 
--- a device of the same kind, with as many data transfer elements
+-- a device of the same kind and profile, with as many data transfer elements
 pub record IsSameDevice (before after : DeviceView) : Type 0 where
   pub kind : kind_of after ≡ kind_of before
+  pub profile : profile_of after ≡ profile_of before
   pub drives : drives_of after ≡ drives_of before
 
 -- every command, and a reset

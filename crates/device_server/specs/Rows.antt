@@ -1,5 +1,5 @@
 -- Worked rows: what a host gets from a drive, byte by byte, and the drive after it.
-use Rattle.std.specs.Prelude.{◌≡◌, ℕ, pos, negsuc, Bool, true, false, List, [], ◌∷◌, ◌++◌, replicate, Some, None, Ok, Err}
+use Rattle.std.specs.Prelude.{◌≡◌, ℕ, pos, negsuc, Bool, true, false, List, [], ◌∷◌, ◌++◌, replicate, Option, Some, None, Ok, Err}
 use Rattle.scsi_cdb.specs.declared.kind.Kind.TheVariants as kind
 use Rattle.scsi_cdb.specs.declared.request.Request.{Request}
 use Rattle.scsi_cdb.specs.declared.request.Request.TheVariants.{TestUnitReady, ReadBlockLimits, Read, Write, WriteFilemarks, Space, ModeSelect, Erase, ModeSense, LoadUnload, Locate, ReadPosition, MoveMedium, ReadElementStatus}
@@ -10,6 +10,8 @@ use Rattle.tape_medium.specs.Tape.{blank, moved_to}
 use Rattle.tape_medium.specs.TapeView.{TapeView}
 use Rattle.tape_medium.specs.declared.volume.VolumeTag.{VolumeTag}
 use Rattle.tape_medium.specs.declared.volume.Volume.{Volume}
+use Rattle.unit_attention.specs.declared.kind.Kind.{Kind}
+use Rattle.unit_attention.specs.declared.kind.Kind.TheVariants.{ModeParametersChanged}
 use Rattle.device_server.specs.declared.fault.TakeFault.TheVariants as take_fault
 use Rattle.device_server.specs.declared.fault.PutFault.TheVariants as put_fault
 use Rattle.device_server.specs.declared.outcome.Outcome.{Outcome}
@@ -22,14 +24,14 @@ pub record Answer : Type 0 where
   pub after : DeviceView
   pub payload : List ℕ
   pub sense : List ℕ
-  pub mode_changed : Bool
+  pub told : Option Kind
 
 abbrev pub sense_bytes : Outcome → List ℕ
 sense_bytes outcome = elim outcome.sense [ None ↦ [] | Some sense ↦ fixed_sense sense ]
 
 abbrev pub answer_of : DeviceView × Outcome → Answer
 answer_of step =
-    record { after = step.0; payload = step.1.payload; sense = sense_bytes step.1; mode_changed = step.1.mode_changed }
+    record { after = step.0; payload = step.1.payload; sense = sense_bytes step.1; told = step.1.told }
 
 abbrev pub sent : DeviceView → Request → List ℕ → Answer
 sent device request bytes = answer_of (performed device request bytes)
@@ -40,11 +42,11 @@ asked device request = sent device request []
 
 -- GOOD, with data
 abbrev pub gives : DeviceView → List ℕ → Answer
-gives after payload = record { after = after; payload = payload; sense = []; mode_changed = false }
+gives after payload = record { after = after; payload = payload; sense = []; told = None }
 
 -- CHECK CONDITION, with the sense data and what was read before
 abbrev pub checks : DeviceView → List ℕ → (sense : List ℕ) → Answer
-checks after payload sense = record { after = after; payload = payload; sense = sense; mode_changed = false }
+checks after payload sense = record { after = after; payload = payload; sense = sense; told = None }
 
 -- the 18 bytes of sense data, by VALID with the response code, the marks with the sense key, INFORMATION, and the two codes
 abbrev pub sense : (first marks i3 i2 i1 i0 asc ascq : ℕ) → List ℕ
@@ -127,19 +129,19 @@ pub record PositionsRead (tag : VolumeTag) : Type 0 where
 abbrev pub list_of_512 : List ℕ
 list_of_512 = 0x00 ∷ 0x00 ∷ 0x00 ∷ 0x08 ∷ 0x00 ∷ 0x00 ∷ 0x00 ∷ 0x00 ∷ 0x00 ∷ 0x00 ∷ 0x02 ∷ 0x00 ∷ []
 
--- GOOD, of a MODE SELECT
-abbrev pub selects : DeviceView → (mode_changed : Bool) → Answer
-selects after mode_changed = record { after = after; payload = []; sense = []; mode_changed = mode_changed }
+-- GOOD, of a MODE SELECT, with what the others are told
+abbrev pub selects : DeviceView → (told : Option Kind) → Answer
+selects after told = record { after = after; payload = []; sense = []; told = told }
 
 -- MODE SELECT of a block length, and again, and MODE SENSE after it
 pub record ModesOfADrive (tag : VolumeTag) : Type 0 where
   pub chosen : sent (loaded tag 0 (block_and_mark 0)) (ModeSelect false 12) list_of_512
-      ≡ selects (loaded tag 512 (block_and_mark 0)) true
+      ≡ selects (loaded tag 512 (block_and_mark 0)) (Some ModeParametersChanged)
   pub again : sent (loaded tag 512 (block_and_mark 0)) (ModeSelect false 12) list_of_512
-      ≡ selects (loaded tag 512 (block_and_mark 0)) false
-  pub no_list : asked (loaded tag 512 (block_and_mark 0)) (ModeSelect false 0) ≡ selects (loaded tag 512 (block_and_mark 0)) false
+      ≡ selects (loaded tag 512 (block_and_mark 0)) None
+  pub no_list : asked (loaded tag 512 (block_and_mark 0)) (ModeSelect false 0) ≡ selects (loaded tag 512 (block_and_mark 0)) None
   pub header_alone : sent (loaded tag 512 (block_and_mark 0)) (ModeSelect false 4) (replicate 4 0)
-      ≡ selects (loaded tag 512 (block_and_mark 0)) false
+      ≡ selects (loaded tag 512 (block_and_mark 0)) None
   pub told : asked (loaded tag 512 (block_and_mark 0)) (ModeSense false 0 0x00 0x00 255)
       ≡ gives (loaded tag 512 (block_and_mark 0))
       (0x0b ∷ 0x00 ∷ 0x00 ∷ 0x08 ∷ 0x00 ∷ 0x00 ∷ 0x00 ∷ 0x00 ∷ 0x00 ∷ 0x00 ∷ 0x02 ∷ 0x00 ∷ [])

@@ -23,6 +23,6 @@ SameButSettled before after = unsettled before ≡ unsettled after
 abbrev pub SettlingChangesNothingElse : Type 0
 SettlingChangesNothingElse = (device : DeviceView) (place objects : ℕ) → SameButSettled device (settled_at device place objects)
 
--- and such a device is of the same kind, with as many data transfer elements
+-- and such a device is of the same kind and profile, with as many data transfer elements
 abbrev pub StaysTheSameWhenSettled : Type 0
 StaysTheSameWhenSettled = (before after : DeviceView) → SameButSettled before after → IsSameDevice before after

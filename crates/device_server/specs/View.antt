@@ -2,7 +2,11 @@
 use Rattle.std.specs.Prelude.{ℕ, ◌==◌, true, false, List, length, Option, None, Some, Result, Ok, Err, if◌then◌else◌}
 use Rattle.scsi_cdb.specs.declared.kind.Kind.{Kind}
 use Rattle.scsi_cdb.specs.declared.kind.Kind.TheVariants as kind
+use Rattle.scsi_cdb.specs.declared.profile.CommandSet.{CommandSet}
+use Rattle.scsi_cdb.specs.declared.profile.Profile.{Profile}
+use Rattle.scsi_cdb.specs.declared.profile.Profile.TheVariants as profile
 use Rattle.scsi_cdb.specs.declared.request.Request.{Request}
+use Rattle.scsi_cdb.specs.Kinds.{commands}
 use Rattle.scsi_sense.specs.declared.condition.Condition.{Condition}
 use Rattle.tape_medium.specs.declared.volume.VolumeTag.{VolumeTag}
 use Rattle.tape_medium.specs.declared.volume.Volume.{Volume}
@@ -28,6 +32,15 @@ pub data DeviceView : Type 0 where
 abbrev pub kind_of : DeviceView → Kind
 kind_of (Drive d) = kind.Drive
 kind_of (Changer e) = kind.Changer
+
+-- the profile that a device is of, which no proof rests on
+unfoldable pub profile_of : DeviceView → Profile
+profile_of (Drive d) = profile.Spec
+profile_of (Changer e) = profile.Spec
+
+-- the commands that a device has
+abbrev pub commands_of : DeviceView → CommandSet
+commands_of device = commands (profile_of device) (kind_of device)
 
 -- how many data transfer elements a changer has
 abbrev pub drives_of : DeviceView → ℕ

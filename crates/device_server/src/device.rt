@@ -1,6 +1,6 @@
 use crate::fault::{BadPlace, PutFault, TakeFault};
 use crate::outcome::Outcome;
-use scsi_cdb::{Kind, Request};
+use scsi_cdb::{Kind, Profile, Request};
 use std::alloc::{AllocError, Global};
 use tape_medium::{Volume, VolumeTag};
 
@@ -12,13 +12,17 @@ pub trait DeviceServer: Drop {
     ghost use Rattle.std.specs.Prelude.{◌≡◌, false, None, Ok, Err, IfOk, OnOk, OnErr, IfErr};
     ghost use Rattle.device_server.specs.Failures.{leaves_to_drives};
     ghost use Rattle.device_server.specs.Volumes.{is_move};
-    ghost use Rattle.device_server.specs.View.{DeviceView, kind_of, drives_of, field_fault, held_in, performed, taken, put, marked, reset_of};
+    ghost use Rattle.device_server.specs.View.{DeviceView, kind_of, profile_of, drives_of, field_fault, held_in, performed, taken, put, marked, reset_of};
 
     ghost shown: { Self → DeviceView };
 
     /// Whether it is a drive or a changer, which never changes.
     fn kind(&self) -> Kind
         ensures { result ≡ kind_of (shown self.now) };
+
+    /// The profile that it is of, by which and its kind it has commands. It never changes.
+    fn profile(&self) -> Profile
+        ensures { result ≡ profile_of (shown self.now) };
 
     /// How many data transfer elements a changer has; 0 for a drive.
     fn drives(&self) -> u16

@@ -76,7 +76,8 @@ pub fn field_fault(kind: Kind, request: &Request, bytes: &[u8]) -> Option<Condit
         | Request::ReadPosition
         | Request::PersistentReserveIn { .. }
         | Request::PersistentReserveOut { .. }
-        | Request::ReportLuns { .. } => None,
+        | Request::ReportLuns { .. }
+        | Request::Host(_) => None,
     }
 }
 

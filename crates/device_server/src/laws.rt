@@ -82,7 +82,7 @@ pub fn ends_its_own_way()
     ensures { EndsItsOwnWay }
 {}
 
-/// Law: a device stays of its kind, with as many data transfer elements, whatever it carries out and through a reset.
+/// Law: a device stays of its kind and profile, with as many data transfer elements, whatever it carries out and through a reset.
 pub fn stays_the_same_device()
     ensures performed { StaysTheSameDevice }
     ensures reset { StaysTheSameByReset }
@@ -153,8 +153,8 @@ pub fn fails_only_for_drives()
 ghost use Rattle.device_server.specs.Settled.{SettlingChangesNothingElse, StaysTheSameWhenSettled};
 ghost use Rattle.device_server.specs.SettledRows.{SettledDevices};
 
-/// Law: settling a volume changes nothing else of a device, and a device of which nothing else changed is of its kind still, with as
-/// many data transfer elements. What it does to a drive's volume and to a changer's.
+/// Law: settling a volume changes nothing else of a device, and a device of which nothing else changed is of its kind and
+/// profile still, with as many data transfer elements. What it does to a drive's volume and to a changer's.
 pub fn settling_changes_nothing_else()
     ensures changes { SettlingChangesNothingElse }
     ensures same { StaysTheSameWhenSettled }

@@ -1,6 +1,7 @@
 use crate::payload::Payload;
 use scsi_sense::{Condition, Sense, Status};
 use std::alloc::Global;
+use unit_attention::Kind;
 
 /// How a device ended a command.
 #[derive(Drop)]
@@ -11,8 +12,8 @@ pub struct Outcome {
     pub sense: Option<Sense>,
     /// The data for the sender.
     pub payload: Payload,
-    /// Whether a MODE SELECT changed the mode parameters, of which every other nexus is to be told.
-    pub mode_changed: bool,
+    /// What every other nexus is to be told: of a MODE SELECT that it changed the mode parameters.
+    pub told: Option<Kind>,
 }
 
 impl Outcome {
@@ -27,16 +28,21 @@ impl Outcome {
             status: Status::Good,
             sense: None,
             payload,
-            mode_changed: false,
+            told: None,
         }
     }
 
-    /// GOOD, of a MODE SELECT.
+    /// GOOD, of a MODE SELECT that changed the mode parameters, or set them as they were.
     pub fn set(alloc: Global, mode_changed: bool) -> Outcome
         ensures { result ≡ set mode_changed }
     {
+        let told = if mode_changed {
+            Some(Kind::ModeParametersChanged)
+        } else {
+            None
+        };
         Outcome {
-            mode_changed,
+            told,
             ..Outcome::good(Payload::none(alloc))
         }
     }
@@ -49,7 +55,7 @@ impl Outcome {
             status: Status::CheckCondition,
             sense: Some(sense),
             payload,
-            mode_changed: false,
+            told: None,
         }
     }
 

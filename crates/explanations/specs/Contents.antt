@@ -1,10 +1,10 @@
--- What the data of a reply are, by the CDB of the command and the kind of the unit that it was sent to.
+-- What the data of a reply are, by the CDB of the command and the commands of the unit that it was sent to.
 use Rattle.std.specs.Prelude.{ℕ, true, false, List, Result, Ok, Err}
 use Rattle.scsi_cdb.specs.Commands.{decoded}
 use Rattle.scsi_cdb.specs.declared.action.InServiceAction.{InServiceAction}
 use Rattle.scsi_cdb.specs.declared.action.InServiceAction.TheVariants.{ReadKeys, ReadReservation, ReportCapabilities, ReadFullStatus}
 use Rattle.scsi_cdb.specs.declared.fault.CdbFault.{CdbFault}
-use Rattle.scsi_cdb.specs.declared.kind.Kind.{Kind}
+use Rattle.scsi_cdb.specs.declared.profile.CommandSet.{CommandSet}
 use Rattle.scsi_cdb.specs.declared.request.Request.{Request}
 use Rattle.scsi_cdb.specs.declared.request.Request.TheVariants.{Inquiry, ModeSense, ReadPosition, PersistentReserveIn, ReportLuns, ReadElementStatus}
 use Rattle.explanations.specs.declared.contents.Contents.{Contents}
@@ -32,5 +32,5 @@ abbrev pub contents_of_decoded : Result Request CdbFault → Contents
 contents_of_decoded (Ok request) = contents_of_request request
 contents_of_decoded (Err fault) = is.Other
 
-abbrev pub contents_of : Kind → (cdb : List ℕ) → Contents
-contents_of kind cdb = contents_of_decoded (decoded kind cdb)
+abbrev pub contents_of : CommandSet → (cdb : List ℕ) → Contents
+contents_of commands cdb = contents_of_decoded (decoded commands cdb)

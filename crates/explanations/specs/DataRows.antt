@@ -2,12 +2,14 @@
 use Rattle.std.specs.Prelude.{◌≡◌, ℕ, List, [], ◌∷◌, ◌++◌, replicate, take, codes, None}
 use Rattle.scsi_sense.specs.declared.status.Status.TheVariants.{Good}
 use Rattle.scsi_cdb.specs.declared.kind.Kind.TheVariants.{Changer}
+use Rattle.scsi_cdb.specs.declared.profile.Profile.TheVariants.{Spec}
+use Rattle.scsi_cdb.specs.Kinds.{commands}
 use Rattle.explanations.specs.Explanation.{explanation}
 use Rattle.explanations.specs.Rows.{big, line, said}
 
 -- the line of GOOD with data, of a changer
 abbrev pub said_by_changer : (cdb payload : List ℕ) → List ℕ
-said_by_changer cdb payload = explanation Changer cdb Good None payload
+said_by_changer cdb payload = explanation (commands Spec Changer) cdb Good None payload
 
 -- the CDBs of INQUIRY, by EVPD and the page, MODE SENSE(6), READ POSITION, REPORT LUNS and READ ELEMENT STATUS
 abbrev pub inquiry : (evpd page : ℕ) → List ℕ

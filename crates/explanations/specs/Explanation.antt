@@ -1,6 +1,6 @@
--- A reply in words, by the CDB of the command and the kind of the unit that it was sent to.
+-- A reply in words, by the CDB of the command and the commands of the unit that it was sent to.
 use Rattle.std.specs.Prelude.{ℕ, ◌==◌, List, [], ◌∷◌, ◌++◌, length, codes, Option, if◌then◌else◌}
-use Rattle.scsi_cdb.specs.declared.kind.Kind.{Kind}
+use Rattle.scsi_cdb.specs.declared.profile.CommandSet.{CommandSet}
 use Rattle.scsi_sense.specs.Text.{status_name}
 use Rattle.scsi_sense.specs.declared.sense.Sense.{Sense}
 use Rattle.scsi_sense.specs.declared.status.Status.{Status}
@@ -33,10 +33,10 @@ payload_by CheckCondition contents bytes = byte_count (length bytes)
 payload_by Busy contents bytes = byte_count (length bytes)
 payload_by ReservationConflict contents bytes = byte_count (length bytes)
 
-abbrev pub payload_text : Kind → (cdb : List ℕ) → Status → (payload : List ℕ) → List ℕ
-payload_text kind cdb status payload = if length payload == 0 then [] else payload_by status (contents_of kind cdb) payload
+abbrev pub payload_text : CommandSet → (cdb : List ℕ) → Status → (payload : List ℕ) → List ℕ
+payload_text commands cdb status payload = if length payload == 0 then [] else payload_by status (contents_of commands cdb) payload
 
 -- the line: the status, the sense data and the data
-unfoldable pub explanation : Kind → (cdb : List ℕ) → Status → Option Sense → (payload : List ℕ) → List ℕ
-explanation kind cdb status sense payload =
-    codes "# " ++ status_name status ++ sense_text_in sense ++ payload_text kind cdb status payload ++ 10 ∷ []
+unfoldable pub explanation : CommandSet → (cdb : List ℕ) → Status → Option Sense → (payload : List ℕ) → List ℕ
+explanation commands cdb status sense payload =
+    codes "# " ++ status_name status ++ sense_text_in sense ++ payload_text commands cdb status payload ++ 10 ∷ []

@@ -5,6 +5,8 @@ use Rattle.scsi_sense.specs.FixedSense.{decoded_sense}
 use Rattle.scsi_sense.specs.declared.status.Status.{Status}
 use Rattle.scsi_sense.specs.declared.status.Status.TheVariants.{Good, CheckCondition, Busy, ReservationConflict}
 use Rattle.scsi_cdb.specs.declared.kind.Kind.TheVariants.{Drive}
+use Rattle.scsi_cdb.specs.declared.profile.Profile.TheVariants.{Spec}
+use Rattle.scsi_cdb.specs.Kinds.{commands}
 use Rattle.explanations.specs.Explanation.{explanation}
 
 -- a text and a line feed
@@ -17,12 +19,12 @@ big count number = bytes_high_first count number
 
 -- the line of a status alone
 abbrev pub alone : Status → List ℕ
-alone status = explanation Drive (replicate 6 0) status None []
+alone status = explanation (commands Spec Drive) (replicate 6 0) status None []
 
 -- the line of CHECK CONDITION with 18 bytes of sense data, and data
 abbrev pub checked : (sense payload : List ℕ) → List ℕ
 checked sense payload = elim (decoded_sense sense) [
-  | Ok sense ↦ explanation Drive (0x08 ∷ replicate 5 0) CheckCondition (Some sense) payload
+  | Ok sense ↦ explanation (commands Spec Drive) (0x08 ∷ replicate 5 0) CheckCondition (Some sense) payload
   | Err fault ↦ []
 ]
 
@@ -33,7 +35,7 @@ sense first marks_and_key information asc ascq =
 
 -- the line of GOOD with data, of a drive
 abbrev pub said : (cdb payload : List ℕ) → List ℕ
-said cdb payload = explanation Drive cdb Good None payload
+said cdb payload = explanation (commands Spec Drive) cdb Good None payload
 
 pub record StatusLines : Type 0 where
   pub good : alone Good ≡ line (codes "# GOOD")

@@ -2,7 +2,7 @@ ghost use Rattle.std.specs.Prelude.{◌≡◌};
 ghost use Rattle.explanations.specs.Contents.{contents_of, contents_of_action, contents_of_request};
 
 use crate::reservations::ReservationList;
-use scsi_cdb::{InServiceAction, Kind, Request, decode};
+use scsi_cdb::{CommandSet, InServiceAction, Request, decode};
 
 /// What the data of a reply are.
 #[derive(Clone, Copy)]
@@ -25,11 +25,11 @@ pub enum Contents {
     Other,
 }
 
-/// What the data of a reply to a command are that was sent to a unit of a kind. Data of bytes that are no command of such a unit aren't read.
-pub fn contents_of(kind: Kind, cdb: &[u8]) -> Contents
-    ensures { result ≡ contents_of kind cdb.now }
+/// What the data of a reply to a command are that was sent to a unit with these commands. Data of bytes that are no command of such a unit aren't read.
+pub fn contents_of(commands: CommandSet, cdb: &[u8]) -> Contents
+    ensures { result ≡ contents_of commands cdb.now }
 {
-    match decode(kind, cdb) {
+    match decode(commands, cdb) {
         Ok(request) => contents_of_request(request),
         Err(_) => Contents::Other,
     }
@@ -49,7 +49,23 @@ fn contents_of_request(request: Request) -> Contents
         Request::ReadPosition => Contents::Position,
         Request::ReportLuns { .. } => Contents::LogicalUnits,
         Request::ReadElementStatus { .. } => Contents::Elements,
-        _ => Contents::Other,
+        Request::TestUnitReady
+        | Request::Rewind
+        | Request::RequestSense { .. }
+        | Request::ReadBlockLimits
+        | Request::InitializeElementStatus
+        | Request::Read { .. }
+        | Request::Write { .. }
+        | Request::WriteFilemarks { .. }
+        | Request::Space { .. }
+        | Request::ModeSelect { .. }
+        | Request::Erase
+        | Request::LoadUnload { .. }
+        | Request::PreventAllowMediumRemoval { .. }
+        | Request::Locate { .. }
+        | Request::PersistentReserveOut { .. }
+        | Request::MoveMedium { .. }
+        | Request::Host(_) => Contents::Other,
     }
 }
 

@@ -9,29 +9,29 @@ use crate::reservations::write_reservations;
 use crate::senses::write_sense;
 use crate::units::{write_inquiry, write_luns, write_page};
 use crate::words::{write_count, write_words};
-use scsi_cdb::Kind;
+use scsi_cdb::CommandSet;
 use scsi_sense::{Sense, Status};
 use std::alloc::AllocError;
 
-/// Adds a line that says in words what a reply to a command says that was sent to a unit of a kind: `# `, the
+/// Adds a line that says in words what a reply to a command says that was sent to a unit with these commands: `# `, the
 /// status, then what its sense data mean, and its data where it is GOOD. Data may be cut anywhere: what is whole is
 /// said, and that they are cut. Data of other commands, or with another status, are counted. Where memory runs out
 /// a part of the line may have been added.
 #[tactic(auto, unfolding(crate::specs::Explanation::explanation))]
 pub fn explain(
     line: &mut Vec<u8>,
-    kind: Kind,
+    commands: CommandSet,
     cdb: &[u8],
     status: Status,
     sense: &Option<Sense>,
     payload: &[u8],
 ) -> Result<(), AllocError>
-    ensures { OnOk result (line.new.items ≡ line.old.items ++ explanation kind cdb.now status sense.now payload.now) }
+    ensures { OnOk result (line.new.items ≡ line.old.items ++ explanation commands cdb.now status sense.now payload.now) }
 {
     write_words(line, "# ")?;
     write_words(line, status.text())?;
     write_sense_in(line, sense)?;
-    write_payload(line, kind, cdb, status, payload)?;
+    write_payload(line, commands, cdb, status, payload)?;
     write_words(line, "\n")
 }
 
@@ -46,18 +46,18 @@ fn write_sense_in(line: &mut Vec<u8>, sense: &Option<Sense>) -> Result<(), Alloc
 
 fn write_payload(
     line: &mut Vec<u8>,
-    kind: Kind,
+    commands: CommandSet,
     cdb: &[u8],
     status: Status,
     payload: &[u8],
 ) -> Result<(), AllocError>
-    ensures { OnOk result (line.new.items ≡ line.old.items ++ payload_text kind cdb.now status payload.now) }
+    ensures { OnOk result (line.new.items ≡ line.old.items ++ payload_text commands cdb.now status payload.now) }
 {
     if payload.is_empty() {
         return Ok(());
     }
     match status {
-        Status::Good => write_contents(line, contents_of(kind, cdb), payload),
+        Status::Good => write_contents(line, contents_of(commands, cdb), payload),
         Status::CheckCondition | Status::Busy | Status::ReservationConflict => {
             write_count(line, payload)
         }

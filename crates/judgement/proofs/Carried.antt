@@ -23,7 +23,7 @@ use Rattle.judgement.specs.UnitData.{inquiry_data, selected_luns}
 use Rattle.judgement.specs.declared.reply.Reply.{Reply}
 use Rattle.judgement.specs.Replies.{check, good, data_reply, IsWhole}
 use Rattle.judgement.specs.UnitStateView.{UnitStateView}
-use Rattle.judgement.specs.UnitState.{accepted, prevented, allowed, is_prevented, after_mode}
+use Rattle.judgement.specs.UnitState.{accepted, prevented, allowed, is_prevented, after_telling}
 use Rattle.judgement.specs.Readings.{pending_of}
 use Rattle.judgement.specs.declared.decision.Decision.{Decision}
 use Rattle.judgement.specs.Decisions.{at_stage}
@@ -52,7 +52,7 @@ pub record IsCarried (u : JudgedUnit) (n : Nexus) (c : Command) (x : JudgedUnit 
   pub whole : IsWhole x.2.status x.2.sense
 
 same_device : (d : DeviceView) → KeepsMarks d d
-same_device d = record { device = record { kind = refl; drives = refl }; marks = refl }
+same_device d = record { device = record { kind = refl; profile = refl; drives = refl }; marks = refl }
 
 same_as : (u : JudgedUnit) → IsSame u u
 same_as u = record { device = same_device u.device; lun = refl; units = refl }
@@ -84,17 +84,17 @@ module _ (u : JudgedUnit) (n : Nexus) where
   prevents_is at p false true = record { state = record { same = record { device = same_device u.device; lun = refl; units = refl }; reservations = refl }; whole = inl (refl, refl) }
   prevents_is at p false false = checks at (Prevent p) (at_stage Fields) InvalidFieldInCdb refl
 
-  mode_is : (d : DeviceView) (b : Bool) → KeepsMarks u.device d → IsSame u (record { device = d; state = after_mode u.state n b }) × ((after_mode u.state n b).reservations ≡ u.state.reservations)
-  mode_is d true h = (record { device = h; lun = refl; units = refl }, refl)
-  mode_is d false h = (record { device = h; lun = refl; units = refl }, refl)
+  telling_is : (d : DeviceView) (told : Option Kind) → KeepsMarks u.device d → IsSame u (record { device = d; state = after_telling u.state n told }) × ((after_telling u.state n told).reservations ≡ u.state.reservations)
+  telling_is d None h = (record { device = h; lun = refl; units = refl }, refl)
+  telling_is d (Some kind) h = (record { device = h; lun = refl; units = refl }, refl)
 
   steps_is : (at : Cell) (r : Request) (bytes : List ℕ) (prevented : Bool)
       → IsCarried u n (Device r) (at_cell at (cond prevented (u, at_stage stage.Device, check MediumRemovalPrevented) (steps u n (performed u.device r bytes))))
   steps_is at r bytes true = checks at (Device r) (at_stage stage.Device) MediumRemovalPrevented refl
   steps_is at r bytes false =
       let step = performed u.device r bytes in
-      let mode = mode_is step.0 step.1.mode_changed (commands_keep_marks u.device r bytes) in
-      record { state = record { same = mode.0; reservations = mode.1 }; whole = (performed_own u.device r bytes).ended }
+      let telling = telling_is step.0 step.1.told (commands_keep_marks u.device r bytes) in
+      record { state = record { same = telling.0; reservations = telling.1 }; whole = (performed_own u.device r bytes).ended }
 
   performs_is : (at : Cell) (r : Request) (bytes : List ℕ) → IsCarried u n (Device r) (at_cell at (performs u n r bytes))
   performs_is at r bytes =

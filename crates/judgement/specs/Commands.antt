@@ -1,6 +1,6 @@
 -- The command that a CDB and the data sent with it decode to, its class, and what a record says was asked.
 use Rattle.std.specs.Prelude.{ℕ, Bool, true, false, List, Option, Some, None, Result, Ok, Err}
-use Rattle.scsi_cdb.specs.declared.kind.Kind.{Kind}
+use Rattle.scsi_cdb.specs.declared.profile.CommandSet.{CommandSet}
 use Rattle.scsi_cdb.specs.declared.classes.Class.{Class}
 use Rattle.scsi_cdb.specs.declared.classes.Class.TheVariants as class
 use Rattle.scsi_cdb.specs.declared.request.Request.{Request}
@@ -31,8 +31,8 @@ command_of (PreventAllowMediumRemoval prevent) bytes = Ok (command.Prevent preve
 command_of request bytes = Ok (Device request)
 
 -- the command, or what is reported of bytes that decode to none
-abbrev pub decoded_command : Kind → (cdb bytes : List ℕ) → Result Command Condition
-decoded_command kind cdb bytes = elim (decoded kind cdb) [ Ok request ↦ command_of request bytes | Err fault ↦ Err (condition_of_fault fault) ]
+abbrev pub decoded_command : CommandSet → (cdb bytes : List ℕ) → Result Command Condition
+decoded_command commands cdb bytes = elim (decoded commands cdb) [ Ok request ↦ command_of request bytes | Err fault ↦ Err (condition_of_fault fault) ]
 
 abbrev pub class_of_command : Command → Class
 class_of_command (ReserveOut params) = class_of_action params.act
@@ -69,5 +69,5 @@ abbrev pub act_of_decoded : Result Command Condition → Act
 act_of_decoded (Ok command) = act_of_command command
 act_of_decoded (Err condition) = act.Invalid
 
-abbrev pub act_of : Kind → (cdb bytes : List ℕ) → Act
-act_of kind cdb bytes = act_of_decoded (decoded_command kind cdb bytes)
+abbrev pub act_of : CommandSet → (cdb bytes : List ℕ) → Act
+act_of commands cdb bytes = act_of_decoded (decoded_command commands cdb bytes)

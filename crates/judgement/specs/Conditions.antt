@@ -4,7 +4,7 @@ use Rattle.scsi_cdb.specs.declared.fault.CdbFault.TheVariants.{Opcode, ShortCdb,
 use Rattle.scsi_sense.specs.declared.condition.Condition.{Condition}
 use Rattle.scsi_sense.specs.declared.condition.Condition.TheVariants as condition
 use Rattle.unit_attention.specs.declared.kind.Kind.{Kind}
-use Rattle.unit_attention.specs.declared.kind.Kind.TheVariants.{PowerOn, BusDeviceReset, NexusLoss, MediumChanged, ModeParametersChanged, ReservationsPreempted, ReservationsReleased, RegistrationsPreempted}
+use Rattle.unit_attention.specs.declared.kind.Kind.TheVariants.{PowerOn, BusDeviceReset, NexusLoss, MediumChanged, ModeParametersChanged, LogParametersChanged, ReservationsPreempted, ReservationsReleased, RegistrationsPreempted}
 use Rattle.permit_tables.specs.declared.pr_fault.PrFault.{PrFault}
 use Rattle.permit_tables.specs.declared.pr_fault.PrFault.TheVariants.{InvalidField, InvalidParam, InvalidRelease, NoRegistrationRoom}
 
@@ -22,6 +22,7 @@ condition_of_attention BusDeviceReset = condition.BusDeviceResetFunctionOccurred
 condition_of_attention NexusLoss = condition.NexusLossOccurred
 condition_of_attention MediumChanged = condition.NotReadyToReadyChange
 condition_of_attention ModeParametersChanged = condition.ModeParametersChanged
+condition_of_attention LogParametersChanged = condition.LogParametersChanged
 condition_of_attention ReservationsPreempted = condition.ReservationsPreempted
 condition_of_attention ReservationsReleased = condition.ReservationsReleased
 condition_of_attention RegistrationsPreempted = condition.RegistrationsPreempted

@@ -1,21 +1,22 @@
 -- What a record says of how a command was judged, beside its answer: the stage, the cell of the permission table where one was
 -- looked up, and the rule on keys that was broken.
-use Rattle.std.specs.Prelude.{Bool, false, Option, None, Some}
+use Rattle.std.specs.Prelude.{Option, None, Some}
 use Rattle.audit_log.specs.declared.stage.Stage.{Stage}
 use Rattle.audit_log.specs.declared.stage.Stage.TheVariants.{ReservationCheck, Device}
 use Rattle.permit_tables.specs.declared.cell.Cell.{Cell}
 use Rattle.permit_tables.specs.declared.key_rule.KeyRule.{KeyRule}
 use Rattle.pr_core.specs.declared.verdict.Verdict.{Verdict}
 use Rattle.pr_core.specs.declared.verdict.Verdict.TheVariants.{Rule}
+use Rattle.unit_attention.specs.declared.kind.Kind.{Kind}
 use Rattle.judgement.specs.declared.decision.Decision.{Decision}
 
 -- a stage alone: before the reservation check, and of what isn't a command
 abbrev pub at_stage : Stage → Decision
-at_stage stage = record { stage = stage; cell = None; rule = None; mode_changed = false }
+at_stage stage = record { stage = stage; cell = None; rule = None; told = None }
 
--- the device's stage, of a command that changed the mode parameters, or left them
-abbrev pub at_device : (mode_changed : Bool) → Decision
-at_device mode_changed = record (at_stage Device) { mode_changed = mode_changed }
+-- the device's stage, of a command that told the others something, or nothing
+abbrev pub at_device : (told : Option Kind) → Decision
+at_device told = record (at_stage Device) { told = told }
 
 -- of a command that came to the reservation check
 abbrev pub in_cell : Cell → Decision → Decision
@@ -32,4 +33,4 @@ rule_of verdict = None
 
 -- by it: the cell is a conflict, or it is allowed and a rule on keys is broken
 abbrev pub in_conflict : Cell → Option KeyRule → Decision
-in_conflict cell rule = record { stage = ReservationCheck; cell = Some cell; rule = rule; mode_changed = false }
+in_conflict cell rule = record { stage = ReservationCheck; cell = Some cell; rule = rule; told = None }

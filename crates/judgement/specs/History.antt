@@ -2,7 +2,7 @@
 -- parameters.
 use Rattle.std.specs.Prelude.{ℕ, Bool, true, false, List, [], ◌∷◌, Result, Ok, if◌then◌else◌}
 use Rattle.std.specs.List.{fold}
-use Rattle.scsi_cdb.specs.declared.kind.Kind.{Kind}
+use Rattle.scsi_cdb.specs.declared.profile.CommandSet.{CommandSet}
 use Rattle.scsi_nexus.specs.declared.nexus.Nexus.{Nexus}
 use Rattle.scsi_sense.specs.declared.condition.Condition.{Condition}
 use Rattle.scsi_sense.specs.declared.status.Status.{Status}
@@ -27,8 +27,8 @@ abbrev pub accepted_as : Nexus → Status → Result Command Condition → List 
 accepted_as n status (Ok (ReserveOut params)) = if is_good status then (n, params) ∷ [] else []
 accepted_as n status command = []
 
-abbrev pub accepted_by : Kind → Nexus → (cdb bytes : List ℕ) → Status → List Accepted
-accepted_by kind n cdb bytes status = accepted_as n status (decoded_command kind cdb bytes)
+abbrev pub accepted_by : CommandSet → Nexus → (cdb bytes : List ℕ) → Status → List Accepted
+accepted_by commands n cdb bytes status = accepted_as n status (decoded_command commands cdb bytes)
 
 -- what a history leaves of what stood at first
 abbrev pub after_history : State → List Accepted → State

@@ -18,7 +18,7 @@ use Rattle.pr_core.specs.declared.verdict.Verdict.{Verdict}
 use Rattle.pr_core.specs.declared.verdict.Verdict.TheVariants.{Allowed, Denied, Rule}
 use Rattle.audit_log.specs.declared.stage.Stage.{Stage}
 use Rattle.audit_log.specs.declared.stage.Stage.TheVariants.{Decoding, ResetAttention, OtherAttention, Fields, Device}
-use Rattle.device_server.specs.View.{DeviceView, kind_of, field_fault, performed}
+use Rattle.device_server.specs.View.{DeviceView, kind_of, commands_of, field_fault, performed}
 use Rattle.device_server.specs.Volumes.{is_move}
 use Rattle.device_server.specs.declared.outcome.Outcome.{Outcome}
 use Rattle.judgement.specs.declared.command.Command.{Command}
@@ -33,7 +33,7 @@ use Rattle.judgement.specs.UnitData.{inquiry_data, selected_luns, sense_data}
 use Rattle.judgement.specs.Replies.{good, check, conflict, replied, data_reply}
 use Rattle.judgement.specs.UnitStateView.{UnitStateView}
 use Rattle.judgement.specs.JudgedUnit.{JudgedUnit}
-use Rattle.judgement.specs.UnitState.{reported, accepted, prevented, allowed, is_prevented, after_mode}
+use Rattle.judgement.specs.UnitState.{reported, accepted, prevented, allowed, is_prevented, after_telling}
 use Rattle.judgement.specs.Readings.{verdict_of, status_data, pending_of}
 
 -- the cell of the permission table that a command of a sender stands in
@@ -51,11 +51,11 @@ reserves u n params = elim (refusal u.state.reservations n params) [
   | None ↦ (record u { state = accepted u.state n params }, at_stage Device, good [])
 ]
 
--- the device's step; every other slot is told of mode parameters that it changed
+-- the device's step; every other slot is told what the command tells
 abbrev pub steps : JudgedUnit → Nexus → DeviceView × Outcome → JudgedUnit × Decision × Reply
 steps u n step = (
-  record { device = step.0; state = after_mode u.state n step.1.mode_changed },
-  at_device step.1.mode_changed,
+  record { device = step.0; state = after_telling u.state n step.1.told },
+  at_device step.1.told,
   replied step.1,
 )
 
@@ -147,7 +147,7 @@ judged_as u n (Err condition) bytes = (u, at_stage Decoding, check condition)
 judged_as u n (Ok command) bytes = commanded u n command bytes
 
 abbrev pub judged : JudgedUnit → Nexus → (cdb bytes : List ℕ) → JudgedUnit × Decision × Reply
-judged u n cdb bytes = judged_as u n (decoded_command (kind_of u.device) cdb bytes) bytes
+judged u n cdb bytes = judged_as u n (decoded_command (commands_of u.device) cdb bytes) bytes
 
 -- whether a verdict allows
 abbrev pub is_allowed_by : Verdict → Bool

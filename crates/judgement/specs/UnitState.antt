@@ -1,12 +1,12 @@
 -- How what a unit keeps changes.
-use Rattle.std.specs.Prelude.{◌≡◌, ℕ, ◌&&◌, ◌||◌, ◌==◌, not, Bool, true, if◌then◌else◌, List, [], ◌∷◌, ◌++◌, filter, map, length}
+use Rattle.std.specs.Prelude.{◌≡◌, ℕ, ◌&&◌, ◌||◌, ◌==◌, not, Bool, true, if◌then◌else◌, List, [], ◌∷◌, ◌++◌, filter, map, length, Option, None, Some}
 use Rattle.std.specs.List.{fold, list_all}
 use Rattle.scsi_cdb.specs.declared.service_action.OutServiceAction.{OutServiceAction}
 use Rattle.scsi_cdb.specs.declared.service_action.OutServiceAction.TheVariants.{PreemptAndAbort}
 use Rattle.scsi_nexus.specs.declared.nexus.Nexus.{Nexus}
 use Rattle.scsi_nexus.specs.Order.{same_nexus}
 use Rattle.unit_attention.specs.declared.kind.Kind.{Kind}
-use Rattle.unit_attention.specs.declared.kind.Kind.TheVariants.{MediumChanged, ModeParametersChanged}
+use Rattle.unit_attention.specs.declared.kind.Kind.TheVariants.{MediumChanged}
 use Rattle.unit_attention.specs.Queues.{Slots, slot_limit, has_slot, contacted, raised, all_raised, cleared, lost, was_reset}
 use Rattle.permit_tables.specs.declared.out_params.OutParams.{OutParams}
 use Rattle.pr_core.specs.State.{power_on}
@@ -40,9 +40,10 @@ raised_for_all q kind = fold (λ slots n. raised slots n kind) q (with_slots q)
 abbrev pub raised_for_others : Slots → (sender : Nexus) → Kind → Slots
 raised_for_others q sender kind = fold (λ slots n. if same_nexus n sender then slots else raised slots n kind) q (with_slots q)
 
--- after a command of a nexus that changed the mode parameters, or left them
-abbrev pub after_mode : UnitStateView → Nexus → (mode_changed : Bool) → UnitStateView
-after_mode k n mode_changed = if mode_changed then record k { slots = raised_for_others k.slots n ModeParametersChanged } else k
+-- after a command of a nexus that told the others something, or nothing
+abbrev pub after_telling : UnitStateView → Nexus → (told : Option Kind) → UnitStateView
+after_telling k n None = k
+after_telling k n (Some kind) = record k { slots = raised_for_others k.slots n kind }
 
 -- after a volume came in
 abbrev pub with_medium : UnitStateView → UnitStateView

@@ -27,6 +27,7 @@ pub fn condition_of_attention(kind: Kind) -> Condition
         Kind::NexusLoss => Condition::NexusLossOccurred,
         Kind::MediumChanged => Condition::NotReadyToReadyChange,
         Kind::ModeParametersChanged => Condition::ModeParametersChanged,
+        Kind::LogParametersChanged => Condition::LogParametersChanged,
         Kind::ReservationsPreempted => Condition::ReservationsPreempted,
         Kind::ReservationsReleased => Condition::ReservationsReleased,
         Kind::RegistrationsPreempted => Condition::RegistrationsPreempted,

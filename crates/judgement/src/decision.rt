@@ -1,5 +1,6 @@
 use audit_log::Stage;
 use permit_tables::{Cell, KeyRule};
+use unit_attention::Kind;
 
 /// What a record says of how an event was judged, beside its status and sense data.
 #[derive(Clone, Copy)]
@@ -10,8 +11,8 @@ pub struct Decision {
     pub cell: Option<Cell>,
     /// The rule on keys that the reservation check found broken.
     pub rule: Option<KeyRule>,
-    /// Whether it is a MODE SELECT that changed the mode parameters.
-    pub mode_changed: bool,
+    /// What the command told every other nexus.
+    pub told: Option<Kind>,
 }
 
 impl Decision {
@@ -26,16 +27,16 @@ impl Decision {
             stage,
             cell: None,
             rule: None,
-            mode_changed: false,
+            told: None,
         }
     }
 
-    /// The device's stage, of a command that changed the mode parameters, or left them.
-    pub fn at_device(mode_changed: bool) -> Decision
-        ensures { result ≡ at_device mode_changed }
+    /// The device's stage, of a command that told the others something, or nothing.
+    pub fn at_device(told: Option<Kind>) -> Decision
+        ensures { result ≡ at_device told }
     {
         Decision {
-            mode_changed,
+            told,
             ..Decision::at_stage(Stage::Device)
         }
     }
@@ -65,7 +66,7 @@ impl Decision {
             stage: Stage::ReservationCheck,
             cell: Some(cell),
             rule,
-            mode_changed: false,
+            told: None,
         }
     }
 }

@@ -1,13 +1,13 @@
-use scsi_cdb::{CdbFault, Kind, Request, decode};
+use scsi_cdb::{CdbFault, CommandSet, Request, decode};
 use scsi_nexus::Nexus;
 use std::marker::Model;
 
-/// A command as a logical unit of a kind received it from a nexus: its CDB, which is decoded here and nowhere else, and the data sent with
+/// A command as a logical unit with some commands received it from a nexus: its CDB, which is decoded here and nowhere else, and the data sent with
 /// it (SAM-5, "Execute Command procedure call").
 #[derive(Drop)]
 pub struct ReceivedCommand<'a> {
     nexus: Nexus,
-    kind: Kind,
+    commands: CommandSet,
     cdb: &'a [u8],
     bytes: &'a [u8],
     request: Result<Request, CdbFault>,
@@ -20,24 +20,29 @@ impl<'a> Model for ReceivedCommand<'a> {
 
     ghost Value = { ReceivedValue };
 
-    ghost view = { λ c. record { nexus = c.nexus; kind = c.kind; cdb = c.cdb.now; bytes = c.bytes.now } };
+    ghost view = { λ c. record { nexus = c.nexus; commands = c.commands; cdb = c.cdb.now; bytes = c.bytes.now } };
 
-    ghost invariant = { λ c. c.request ≡ decoded c.kind c.cdb.now };
+    ghost invariant = { λ c. c.request ≡ decoded c.commands c.cdb.now };
 }
 
 impl<'a> ReceivedCommand<'a> {
     ghost use Rattle.std.specs.Prelude.{◌≡◌};
     ghost use Rattle.scsi_cdb.specs.Commands.{decoded};
 
-    pub fn new(nexus: Nexus, kind: Kind, cdb: &'a [u8], bytes: &'a [u8]) -> ReceivedCommand<'a>
-        ensures { result ≡ record { nexus = nexus; kind = kind; cdb = cdb.now; bytes = bytes.now } }
+    pub fn new(
+        nexus: Nexus,
+        commands: CommandSet,
+        cdb: &'a [u8],
+        bytes: &'a [u8],
+    ) -> ReceivedCommand<'a>
+        ensures { result ≡ record { nexus = nexus; commands = commands; cdb = cdb.now; bytes = bytes.now } }
     {
         ReceivedCommand {
             nexus,
-            kind,
+            commands,
             cdb,
             bytes,
-            request: decode(kind, cdb),
+            request: decode(commands, cdb),
         }
     }
 
@@ -49,7 +54,7 @@ impl<'a> ReceivedCommand<'a> {
 
     /// What the CDB says.
     pub fn request(&self) -> Result<Request, CdbFault>
-        ensures { result ≡ decoded self.now.kind self.now.cdb }
+        ensures { result ≡ decoded self.now.commands self.now.cdb }
     {
         self.request
     }

@@ -141,11 +141,8 @@ fn perform<D: DeviceServer>(
     }
     let outcome = device.perform(alloc, request, bytes)?;
     state.make_contact(nexus);
-    state.note_mode(nexus, outcome.mode_changed);
-    Ok((
-        Decision::at_device(outcome.mode_changed),
-        Reply::of(outcome),
-    ))
+    state.tell_others(nexus, outcome.told);
+    Ok((Decision::at_device(outcome.told), Reply::of(outcome)))
 }
 
 /// PREVENT ALLOW MEDIUM REMOVAL (SPC-4, "PREVENT ALLOW MEDIUM REMOVAL command"), which takes no memory.

@@ -37,7 +37,7 @@ impl Model for UnitState {
 impl UnitState {
     ghost use Rattle.std.specs.Prelude.{◌≡◌, true};
     ghost use Rattle.unit_attention.specs.Queues.{first_reset_of, first_other_of, has_slot};
-    ghost use Rattle.judgement.specs.UnitState.{HaveSlots, at_power_on, has_room, after_contact, reported, is_prevented, prevented, allowed, after_mode, with_medium};
+    ghost use Rattle.judgement.specs.UnitState.{HaveSlots, at_power_on, has_room, after_contact, reported, is_prevented, prevented, allowed, after_telling, with_medium};
     ghost use Rattle.judgement.specs.UnitState.{kept_after_loss, kept_after_reset};
     ghost use Rattle.judgement.specs.Readings.{pending_of};
     ghost use Rattle.judgement.specs.Replies.{check};
@@ -170,12 +170,12 @@ impl UnitState {
         self.preventers = none;
     }
 
-    /// A command of a nexus changed the mode parameters, or left them.
-    pub fn note_mode(&mut self, nexus: Nexus, mode_changed: bool)
-        ensures { self.new ≡ after_mode self.old nexus mode_changed }
+    /// What a command of a nexus tells is raised for every slot but its own.
+    pub fn tell_others(&mut self, nexus: Nexus, told: Option<Kind>)
+        ensures { self.new ≡ after_telling self.old nexus told }
     {
-        if mode_changed {
-            raise_for_others(&mut self.queues, nexus, Kind::ModeParametersChanged);
+        if let Some(kind) = told {
+            raise_for_others(&mut self.queues, nexus, kind);
         }
     }
 

@@ -1,6 +1,6 @@
 -- Worked rows: what seats have noted that agrees with a trail of drive 1, and what doesn't. Five numbers were used before; the trail has record 6, of
 -- A's TEST UNIT READY, and record 7, of a volume that came in by B's move at the changer.
-use Rattle.std.specs.Prelude.{ℕ, false, List, [], ◌∷◌, Some, None}
+use Rattle.std.specs.Prelude.{ℕ, List, [], ◌∷◌, Some, None}
 use Rattle.scsi_cdb.specs.declared.classes.Class.TheVariants as class
 use Rattle.scsi_nexus.specs.declared.nexus.Nexus.{Nexus}
 use Rattle.scsi_sense.specs.declared.status.Status.{Status}
@@ -22,10 +22,10 @@ abbrev pub b : Nexus
 b = record { sas = 0x500000000000000B; port = 1 }
 
 abbrev pub ready : Status → Record
-ready status = record { number = 6; nexus = Some a; act = act.Command class.TestUnitReady; stage = Device; cell = None; rule = None; status = status; sense = None; mode_changed = false }
+ready status = record { number = 6; nexus = Some a; act = act.Command class.TestUnitReady; stage = Device; cell = None; rule = None; status = status; sense = None; told = None }
 
 abbrev pub came_in : Record
-came_in = record { number = 7; nexus = None; act = act.MediumIn; stage = Device; cell = None; rule = None; status = Good; sense = None; mode_changed = false }
+came_in = record { number = 7; nexus = None; act = act.MediumIn; stage = Device; cell = None; rule = None; status = Good; sense = None; told = None }
 
 abbrev pub trail : List Record
 trail = ready Good ∷ came_in ∷ []

@@ -1,5 +1,5 @@
 ghost use Rattle.std.specs.Prelude.{◌≡◌, ◌≢◌, ◌+◌, ◌<◌, ◌++◌, [], ◌∷◌, ℕ, Some};
-ghost use Rattle.scsi_cdb.specs.declared.kind.Kind.TheVariants.{Changer};
+ghost use Rattle.scsi_cdb.specs.Kinds.{commands_at};
 ghost use Rattle.device_server.specs.View.{drives_of};
 ghost use Rattle.judgement.specs.Replies.{busy};
 ghost use Rattle.judgement.specs.Commands.{act_of_decoded};
@@ -29,11 +29,11 @@ pub fn move_kept_one<'a, const LUN: u8, C: UnitLedger, L: UnitLedger, D: DeviceS
     drive_part: &mut Share<L>,
     received: &ReceivedCommand<'a>,
 ) -> Done<'a>
-    requires kind { received.now.kind ≡ Changer }
+    requires commands { received.now.commands ≡ commands_at C.profile 0 }
     requires part { 0 < part.old.parts }
     requires drive_part { 0 < drive_part.old.parts }
     requires drive { 0 < LUN }
-    requires named { named (drives_of changer.old.unit.device) received.now.cdb ≡ LUN ∷ [] }
+    requires named { named received.now.commands (drives_of changer.old.unit.device) received.now.cdb ≡ LUN ∷ [] }
     ensures answer { IsAnswer result (Some received.now.nexus) 0 (event.Command received.now.cdb received.now.bytes) }
     ensures step { MovesOne changer.old.unit drive.old.unit received.now.nexus received.now.cdb received.now.bytes ((changer.new.unit, result.reply), drive.new.unit) }
     ensures numbers { result.numbers ≡ numbers_of changer.old.unit changer.new.unit ++ numbers_of drive.old.unit drive.new.unit }
@@ -73,12 +73,12 @@ pub fn move_kept_two<
     high_part: &mut Share<H>,
     received: &ReceivedCommand<'a>,
 ) -> Done<'a>
-    requires kind { received.now.kind ≡ Changer }
+    requires commands { received.now.commands ≡ commands_at C.profile 0 }
     requires part { 0 < part.old.parts }
     requires low_part { 0 < low_part.old.parts }
     requires high_part { 0 < high_part.old.parts }
     requires drives { (0 < LOW) × (LOW < HIGH) }
-    requires named { named (drives_of changer.old.unit.device) received.now.cdb ≡ LOW ∷ HIGH ∷ [] }
+    requires named { named received.now.commands (drives_of changer.old.unit.device) received.now.cdb ≡ LOW ∷ HIGH ∷ [] }
     ensures answer { IsAnswer result (Some received.now.nexus) 0 (event.Command received.now.cdb received.now.bytes) }
     ensures step { MovesTwo changer.old.unit (record { low = low.old.unit; high = high.old.unit }) received.now.nexus received.now.cdb received.now.bytes ((changer.new.unit, result.reply), record { low = low.new.unit; high = high.new.unit }) }
     ensures numbers { result.numbers ≡ numbers_of changer.old.unit changer.new.unit ++ numbers_of low.old.unit low.new.unit ++ numbers_of high.old.unit high.new.unit }

@@ -1,5 +1,5 @@
 ghost use Rattle.std.specs.Prelude.{◌≡◌, ◌⊎◌, ◌+◌, ◌<◌, ◌≤◌, ◌^◌, ◌||◌, [], ℕ, Some, None, IfOk, IfErr, OnOk, OnErr, IsTrue, ◌↔◌};
-ghost use Rattle.device_server.specs.View.{kind_of, drives_of};
+ghost use Rattle.device_server.specs.View.{kind_of, profile_of, drives_of};
 ghost use Rattle.device_server.specs.Settled.{SameButSettled};
 ghost use Rattle.judgement.specs.Replies.{busy};
 ghost use Rattle.judgement.specs.Commands.{act_of_decoded};
@@ -13,7 +13,7 @@ ghost use Rattle.logical_unit.specs.Answers as event;
 ghost use Rattle.logical_unit.specs.Answers.{IsAnswer, count_at, own_number, OnlyAt};
 ghost use Rattle.logical_unit.specs.declared.act_kind.ActKind.TheVariants as kind;
 ghost use Rattle.logical_unit.specs.ActKinds.{act_kind_of, act_kind_if};
-ghost use Rattle.scsi_cdb.specs.Kinds.{kind_at};
+ghost use Rattle.scsi_cdb.specs.Kinds.{kind_at, commands_at};
 ghost use Rattle.kept_unit.specs.SeatNotes.{notes_value};
 ghost use Rattle.settled_numbers.specs.Numbers.{has, is_in, size, count, Meets};
 
@@ -48,7 +48,7 @@ impl<const LUN: u8, L: UnitLedger, D: DeviceServer> Model for Kept<LUN, L, D> {
 
     ghost view = { λ k. record { unit = k.unit.unit; total = k.book.total; handed_over = k.handed_over } };
 
-    ghost invariant = { λ k. IsKept LUN k.unit.unit k.book.total k.first L.since };
+    ghost invariant = { λ k. IsKept L.profile LUN k.unit.unit k.book.total k.first L.since };
 }
 
 impl<const LUN: u8, L: UnitLedger, D: DeviceServer> Kept<LUN, L, D> {
@@ -60,6 +60,7 @@ impl<const LUN: u8, L: UnitLedger, D: DeviceServer> Kept<LUN, L, D> {
         part: Share<L>,
     ) -> Kept<LUN, L, D>
         requires kind { kind_of unit.unit.device ≡ kind_at LUN }
+        requires profile { profile_of unit.unit.device ≡ L.profile }
         requires lun { unit.unit.state.lun ≡ LUN }
         requires few { drives_of unit.unit.device < 2 ^ 8 }
         requires since { last_number unit.unit ≡ L.since }
@@ -141,6 +142,7 @@ impl<const LUN: u8, L: UnitLedger, D: DeviceServer> Kept<LUN, L, D> {
         requires { rest.parts + 1 ≡ L.parts }
         ensures unit { result.unit ≡ self.unit }
         ensures kind { kind_of result.unit.device ≡ kind_at LUN }
+        ensures profile { profile_of result.unit.device ≡ L.profile }
         ensures lun { result.unit.state.lun ≡ LUN }
         ensures sum { last_number result.unit ≡ L.since + (count self.handed_over + rest.amount) }
     {
@@ -182,7 +184,6 @@ impl<const LUN: u8, L: UnitLedger, D: DeviceServer> Kept<LUN, L, D> {
 
     /// Lets an attendant look after the volumes of the unit's device: nothing changes but how many objects of a tape count as
     /// unchanged.
-    #[tactic(auto, using(device_server::proofs::SettledLemmas::same_settled))]
     pub fn attend<A: Attendant<D>>(&mut self, attendant: &mut A)
         ensures asked { A.looks_after attendant.old LUN self.old.unit.device self.new.unit.device attendant.new }
         ensures kind { kind_of self.old.unit.device ≡ kind_at LUN }
@@ -202,7 +203,7 @@ impl<const LUN: u8, L: UnitLedger, D: DeviceServer> Kept<LUN, L, D> {
         received: &ReceivedCommand<'a>,
     ) -> Done<'a>
         requires parts { 0 < part.old.parts }
-        requires kind { received.now.kind ≡ kind_at LUN }
+        requires commands { received.now.commands ≡ commands_at L.profile LUN }
         ensures answer { IsAnswer result (Some received.now.nexus) LUN (event.Command received.now.cdb received.now.bytes) }
         ensures step { Executes self.old.unit received.now.nexus received.now.cdb received.now.bytes (self.new.unit, result.reply) }
         ensures numbers { result.numbers ≡ own_number LUN result.reply.number }

@@ -2,6 +2,7 @@ ghost use Rattle.std.specs.Prelude.{◌≡◌, ◌+◌, ◌*◌, ◌<◌, ◌≤
 ghost use Rattle.std.specs.List.{AllZip};
 ghost use Rattle.logical_unit.specs.UnitView.{units_of};
 ghost use Rattle.lun_router.specs.Blanks.{AreBlanks};
+ghost use Rattle.target_core.specs.Faults.{profile_in};
 ghost use Rattle.lun_router.specs.Opening.{IsSince};
 ghost use Rattle.server.specs.Sessions.{ComesBySessions};
 ghost use Rattle.output_lines.specs.LeftLines.{GoesOn};
@@ -119,6 +120,7 @@ fn serve_with_ledgers<
     requires blanks { AreBlanks B.names B.all_parts blanks }
     requires parts { B.all_parts ≡ workers + 1 }
     requires since { IsSince (units_of core) B.since_of }
+    requires profile { profile_in (units_of core) ≡ B.profile }
     ensures served { OnOk result (ServesLibrary (units_of core) workers means.now.records (W.contents writer.old) (W.contents writer.new)) }
     ensures fault { IfErr result (λ fault. MayTell acceptor.now.limits.term fault) }
 {

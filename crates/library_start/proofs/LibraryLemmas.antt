@@ -1,7 +1,7 @@
 -- The units of the library stand in the order of a target.
 use Rattle.std.proofs.Common.{◌≡◌, ℕ, zero, suc, ◌+◌, ◌≤◌, List, ◌∷◌, Option, None, refl, arith}
 use Rattle.std.specs.Prelude.{replicate}
-use Rattle.device_server.specs.View.{Changer}
+use Rattle.device_server.specs.View.{Changer, profile_of}
 use Rattle.tape_medium.specs.declared.volume.Volume.{Volume}
 use Rattle.logical_unit.specs.Step.{made}
 use Rattle.target_core.specs.Faults.{fault_of}
@@ -18,6 +18,7 @@ fault_with drives places import_exports =
 
 -- by the number of drives
 by_drives : (drives : ℕ) (places import_exports : List (Option Volume)) → 1 ≤ drives → drives ≤ 4 → fault_with drives places import_exports ≡ None
+unfolding profile_of
 by_drives zero places import_exports low high = absurd (omega (arith, low))
 by_drives (suc zero) places import_exports low high = refl
 by_drives (suc (suc zero)) places import_exports low high = refl

@@ -2,7 +2,7 @@ ghost use Rattle.std.specs.Prelude.{◌≡◌};
 
 use changer_server::Changer;
 use device_server::{BadPlace, DeviceServer, Outcome, PutFault, TakeFault};
-use scsi_cdb::{Kind, Request};
+use scsi_cdb::{Kind, Profile, Request};
 use std::alloc::{AllocError, Global};
 use tape_medium::{Volume, VolumeTag};
 use tape_server::TapeDrive;
@@ -58,6 +58,13 @@ impl DeviceServer for Device {
         match self {
             Device::Changer(changer) => changer.kind(),
             Device::Tape(drive) => drive.kind(),
+        }
+    }
+
+    fn profile(&self) -> Profile {
+        match self {
+            Device::Changer(changer) => changer.profile(),
+            Device::Tape(drive) => drive.profile(),
         }
     }
 

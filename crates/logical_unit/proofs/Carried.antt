@@ -5,7 +5,7 @@ use Rattle.scsi_nexus.specs.declared.nexus.Nexus.{Nexus}
 use Rattle.scsi_sense.specs.declared.condition.Condition.{Condition}
 use Rattle.audit_log.specs.declared.act.Act.{Act}
 use Rattle.audit_log.specs.declared.record.Record.{Record}
-use Rattle.device_server.specs.View.{DeviceView, kind_of, drives_of}
+use Rattle.device_server.specs.View.{DeviceView, commands_of, drives_of}
 use Rattle.judgement.specs.declared.reply.Reply.{Reply}
 use Rattle.judgement.specs.Replies.{busy, good, check}
 use Rattle.judgement.specs.Commands.{act_of}
@@ -29,12 +29,12 @@ abbrev pub Settled : {A : Type 0} → (c v : UnitView) → Act → Reply → (dr
 Settled c v act r drives after carried =
     ((v ≡ c) × (r ≡ busy) × (after ≡ drives)) ⊎ (Recorded c v act × Carried drives after carried)
 
-ends_recorded : (c v : UnitView) (n : Nexus) (cdb bytes : List ℕ) (r : Reply) (device : DeviceView) (reply : Reply) → Ends c v n cdb bytes r device reply → Recorded c v (act_of (kind_of c.device) cdb bytes)
+ends_recorded : (c v : UnitView) (n : Nexus) (cdb bytes : List ℕ) (r : Reply) (device : DeviceView) (reply : Reply) → Ends c v n cdb bytes r device reply → Recorded c v (act_of (commands_of c.device) cdb bytes)
 ends_recorded c v n cdb bytes r device reply ends =
-    recorded_one c v n (act_of (kind_of c.device) cdb bytes) (record { device = device; state = c.state }) ends.decision reply r ends.unit
+    recorded_one c v n (act_of (commands_of c.device) cdb bytes) (record { device = device; state = c.state }) ends.decision reply r ends.unit
 
 pub settled : {A : Type 0} (c v : UnitView) (n : Nexus) (cdb bytes : List ℕ) (r : Reply) (drives after : A) (carried : Result (DeviceView × A) Condition) → Became c v n cdb bytes r drives after carried
-    → Settled c v (act_of (kind_of c.device) cdb bytes) r drives after carried
+    → Settled c v (act_of (commands_of c.device) cdb bytes) r drives after carried
 settled c v n cdb bytes r drives after carried (inl alone) = elim (executed c v n cdb bytes r alone.0) [
   | inl same ↦ inl (same.0, same.1, alone.1)
   | inr more ↦ inr (more.0, inl alone.1)
@@ -89,10 +89,10 @@ two_last c ds None device es h = absurd cc
 two_last c ds (Some r) device es h = by_way_last c ds r (is_upward r.from r.to) device es h
 
 -- WITH ONE DRIVE
-pub one_settled : (c d v e : UnitView) (n : Nexus) (cdb bytes : List ℕ) (r : Reply) (l : ℕ) (more : List ℕ) → named (drives_of c.device) cdb ≡ l ∷ more → MovesOne c d n cdb bytes ((v, r), e)
-    → ((v ≡ c) × (r ≡ busy) × (e ≡ d)) ⊎ (Recorded c v (act_of (kind_of c.device) cdb bytes) × NoneOrOne d e)
+pub one_settled : (c d v e : UnitView) (n : Nexus) (cdb bytes : List ℕ) (r : Reply) (l : ℕ) (more : List ℕ) → named (commands_of c.device) (drives_of c.device) cdb ≡ l ∷ more → MovesOne c d n cdb bytes ((v, r), e)
+    → ((v ≡ c) × (r ≡ busy) × (e ≡ d)) ⊎ (Recorded c v (act_of (commands_of c.device) cdb bytes) × NoneOrOne d e)
 one_settled c d v e n cdb bytes r l more names moves =
-    let by : Settled c v (act_of (kind_of c.device) cdb bytes) r d e (carried_one c.device d (route_at c cdb)) → ((v ≡ c) × (r ≡ busy) × (e ≡ d)) ⊎ (Recorded c v (act_of (kind_of c.device) cdb bytes) × NoneOrOne d e) =
+    let by : Settled c v (act_of (commands_of c.device) cdb bytes) r d e (carried_one c.device d (route_at c cdb)) → ((v ≡ c) × (r ≡ busy) × (e ≡ d)) ⊎ (Recorded c v (act_of (commands_of c.device) cdb bytes) × NoneOrOne d e) =
     λ s. elim s [
       | inl same ↦ inl same
       | inr told ↦ elim told.1 [
@@ -103,11 +103,11 @@ one_settled c d v e n cdb bytes r l more names moves =
     by (settled c v n cdb bytes r d e (carried_one c.device d (route_at c cdb)) (one_became c d v e n cdb bytes r l more names moves))
 
 -- WITH TWO
-pub two_settled : (c v : UnitView) (ds es : TwoDrives) (n : Nexus) (cdb bytes : List ℕ) (r : Reply) (l : ℕ) (more : List ℕ) → named (drives_of c.device) cdb ≡ l ∷ more → MovesTwo c ds n cdb bytes ((v, r), es)
-    → ((v ≡ c) × (r ≡ busy) × (es ≡ ds)) ⊎ (Recorded c v (act_of (kind_of c.device) cdb bytes) × NoneOrOne ds.low es.low × NoneOrOne ds.high es.high)
+pub two_settled : (c v : UnitView) (ds es : TwoDrives) (n : Nexus) (cdb bytes : List ℕ) (r : Reply) (l : ℕ) (more : List ℕ) → named (commands_of c.device) (drives_of c.device) cdb ≡ l ∷ more → MovesTwo c ds n cdb bytes ((v, r), es)
+    → ((v ≡ c) × (r ≡ busy) × (es ≡ ds)) ⊎ (Recorded c v (act_of (commands_of c.device) cdb bytes) × NoneOrOne ds.low es.low × NoneOrOne ds.high es.high)
 two_settled c v ds es n cdb bytes r l more names moves =
-    let by : Settled c v (act_of (kind_of c.device) cdb bytes) r ds es (carried_two c.device ds (route_at c cdb))
-    → ((v ≡ c) × (r ≡ busy) × (es ≡ ds)) ⊎ (Recorded c v (act_of (kind_of c.device) cdb bytes) × NoneOrOne ds.low es.low × NoneOrOne ds.high es.high) =
+    let by : Settled c v (act_of (commands_of c.device) cdb bytes) r ds es (carried_two c.device ds (route_at c cdb))
+    → ((v ≡ c) × (r ≡ busy) × (es ≡ ds)) ⊎ (Recorded c v (act_of (commands_of c.device) cdb bytes) × NoneOrOne ds.low es.low × NoneOrOne ds.high es.high) =
     λ s. elim s [
       | inl same ↦ inl same
       | inr told ↦ elim told.1 [

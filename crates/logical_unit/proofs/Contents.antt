@@ -27,7 +27,7 @@ use Rattle.audit_log.specs.declared.stage.Stage.TheVariants.{ResetAttention, Oth
 use Rattle.device_server.specs.declared.outcome.Outcome.{Outcome}
 use Rattle.device_server.specs.Outcomes.{done, refused}
 use Rattle.device_server.specs.Drive.{DriveView, run, after_run, behind_run, reads, reads_fixed, unless_nothing, is_fixed_transfer, space_code, on_tape, in_volume, in_bay, drive_step}
-use Rattle.device_server.specs.View.{DeviceView, Drive, Changer, kind_of, field_fault, stepped, performed}
+use Rattle.device_server.specs.View.{DeviceView, Drive, Changer, commands_of, field_fault, stepped, performed}
 use Rattle.device_server.specs.Volumes.{SameVolume, SameAt}
 use Rattle.device_server.proofs.TapeLemmas.{same_volume}
 use Rattle.logical_unit.specs.Contents.{SameContents, MayNotChange, OutsiderChangesNothing}
@@ -111,6 +111,7 @@ module _ (ty : ResType) (ro : Role) (closed : row_allows Changing ty ro ≡ fals
   tape_same m protected t (request.ReportLuns select l) bytes h = same_tape t
   tape_same m protected t (request.MoveMedium transport source destination invert) bytes h = same_tape t
   tape_same m protected t (request.ReadElementStatus voltag type_code start count curdata dvcid l) bytes h = same_tape t
+  tape_same m protected t (request.Host command) bytes h = same_tape t
 
   abbrev SameDrive : DriveView → DriveView → Type 0
   SameDrive d e = SameContents (Drive d) (Drive e)
@@ -163,6 +164,7 @@ module _ (ty : ResType) (ro : Role) (closed : row_allows Changing ty ro ≡ fals
   drive_same d (request.ReportLuns select l) bytes h = bay_same d d.bay (request.ReportLuns select l) bytes refl h
   drive_same d (request.MoveMedium transport source destination invert) bytes h = bay_same d d.bay (request.MoveMedium transport source destination invert) bytes refl h
   drive_same d (request.ReadElementStatus voltag type_code start count curdata dvcid l) bytes h = bay_same d d.bay (request.ReadElementStatus voltag type_code start count curdata dvcid l) bytes refl h
+  drive_same d (request.Host command) bytes h = bay_same d d.bay (request.Host command) bytes refl h
 
   device_self : (d : DeviceView) → SameContents d d
   device_self (Drive d) = drive_self d
@@ -227,4 +229,4 @@ pub changes_nothing : OutsiderChangesNothing
 changes_nothing u v n cdb bytes r closed (inl e) =
     subst (λ (x : UnitView × Reply). SameContents u.device x.0.device) (sym e) (self (contacted_present u n) n closed)
 changes_nothing u v n cdb bytes r closed (inr e) =
-    subst (λ (x : UnitView × Reply). SameContents u.device x.0.device) (sym e.2) (judged_keeps (contacted_present u n) n closed (decoded_command (kind_of u.device) cdb bytes) bytes)
+    subst (λ (x : UnitView × Reply). SameContents u.device x.0.device) (sym e.2) (judged_keeps (contacted_present u n) n closed (decoded_command (commands_of u.device) cdb bytes) bytes)

@@ -1,9 +1,9 @@
 -- A command that was answered in room that was made for its record.
 use Rattle.std.proofs.Common.{◌≡◌, ℕ, ◌+◌, ◌<◌, ◌^◌, true, List, Result, sym, ap, ◌∙◌, subst, inr}
 use Rattle.scsi_nexus.specs.declared.nexus.Nexus.{Nexus}
-use Rattle.scsi_cdb.specs.declared.kind.Kind.{Kind}
+use Rattle.scsi_cdb.specs.declared.profile.CommandSet.{CommandSet}
 use Rattle.audit_log.specs.declared.act.Act.{Act}
-use Rattle.device_server.specs.View.{DeviceView, kind_of}
+use Rattle.device_server.specs.View.{DeviceView, commands_of}
 use Rattle.judgement.specs.Commands.{decoded_command, act_of_decoded}
 use Rattle.judgement.specs.declared.reply.Reply.{Reply}
 use Rattle.logical_unit.specs.UnitView.{UnitView, UnitWithRoom, RecordedUnitView, unit_of, last_in}
@@ -45,18 +45,18 @@ judged_alike d state s n n' bytes bytes' out senders sent judged =
     ∙ judged
 
 -- what is answered, by the command that was decoded and by other terms for the unit, the sender and the data
-pub answered_alike : (d : DeviceView) (v v' : RecordedUnitView) (n n' : Nexus) (cdb bytes bytes' : List ℕ) (kind : Kind)
+pub answered_alike : (d : DeviceView) (v v' : RecordedUnitView) (n n' : Nexus) (cdb bytes bytes' : List ℕ) (commands : CommandSet)
     (s : Result Command Condition) (a : Act)
     (out : JudgedUnit × Decision × Reply) (end : UnitView × Reply)
-    → v ≡ v' → n ≡ n' → bytes ≡ bytes' → kind ≡ kind_of d → s ≡ decoded_command kind cdb bytes' → a ≡ act_of_decoded s
+    → v ≡ v' → n ≡ n' → bytes ≡ bytes' → commands ≡ commands_of d → s ≡ decoded_command commands cdb bytes' → a ≡ act_of_decoded s
     → judged_as (record { device = d; state = after_contact v.state n }) n s bytes ≡ out → recorded (unit_of d v) n a out ≡ end
     → answered (unit_of d v') n' cdb bytes' ≡ end
-answered_alike d v v' n n' cdb bytes bytes' kind s a out end views senders sent kinds spelt asked judged noted =
-    let found : s ≡ decoded_command (kind_of d) cdb bytes' = spelt ∙ ap (λ (k : Kind). decoded_command k cdb bytes') kinds in
+answered_alike d v v' n n' cdb bytes bytes' commands s a out end views senders sent same_commands spelt asked judged noted =
+    let found : s ≡ decoded_command (commands_of d) cdb bytes' = spelt ∙ ap (λ (k : CommandSet). decoded_command k cdb bytes') same_commands in
     let at : answered (unit_of d v) n cdb bytes ≡ end
     = subst (λ (t : Result Command Condition). recorded (unit_of d v) n (act_of_decoded t)
     (judged_as (record { device = d; state = after_contact v.state n }) n t bytes) ≡ end)
-    (found ∙ sym (ap (decoded_command (kind_of d) cdb) sent))
+    (found ∙ sym (ap (decoded_command (commands_of d) cdb) sent))
     (ap (recorded (unit_of d v) n (act_of_decoded s)) judged ∙ ap (λ (b : Act). recorded (unit_of d v) n b out) (sym asked) ∙ noted) in
     subst (λ (w : RecordedUnitView). answered (unit_of d w) n' cdb bytes' ≡ end) views
     (subst (λ (b : List ℕ). answered (unit_of d v) n' cdb b ≡ end) sent (subst (λ (m : Nexus). answered (unit_of d v) m cdb bytes ≡ end)

@@ -75,3 +75,4 @@ fields_fit kind (request.ReportLuns select l) bytes = tt
 fields_fit kind (request.MoveMedium transport source destination invert) bytes = where_fits class.MoveMedium invert refl
 fields_fit kind (request.ReadElementStatus voltag type_code start count true dvcid l) bytes = where_fits class.ReadElementStatusCurdata _ refl
 fields_fit kind (request.ReadElementStatus voltag type_code start count false dvcid l) bytes = where_fits class.ReadElementStatus _ refl
+fields_fit kind (request.Host command) bytes = tt

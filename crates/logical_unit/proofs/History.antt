@@ -3,7 +3,7 @@ use Rattle.std.proofs.Common.{◌≡◌, ℕ, List, Result, Ok, Err, refl, sym, 
 use Rattle.scsi_nexus.specs.declared.nexus.Nexus.{Nexus}
 use Rattle.scsi_sense.specs.declared.condition.Condition.{Condition}
 use Rattle.pr_core.specs.State.{State}
-use Rattle.device_server.specs.View.{kind_of}
+use Rattle.device_server.specs.View.{commands_of}
 use Rattle.device_server.specs.Ends.{IsSameDevice}
 use Rattle.device_server.specs.Marks.{KeepsMarks}
 use Rattle.judgement.specs.declared.command.Command.{Command}
@@ -35,25 +35,25 @@ pub record Stays (u : UnitView) (n : Nexus) (c : Result Command Condition) (x : 
   pub units : x.0.state.units ≡ u.state.units
   pub reservations : x.0.state.reservations ≡ after_history u.state.reservations (accepted_as n x.1.status c)
 
-pub executes_stays : (u v : UnitView) (n : Nexus) (cdb bytes : List ℕ) (r : Reply) → Executes u n cdb bytes (v, r) → Stays u n (decoded_command (kind_of u.device) cdb bytes) (v, r)
+pub executes_stays : (u v : UnitView) (n : Nexus) (cdb bytes : List ℕ) (r : Reply) → Executes u n cdb bytes (v, r) → Stays u n (decoded_command (commands_of u.device) cdb bytes) (v, r)
 executes_stays u v n cdb bytes r (inl e) =
-    let c = decoded_command (kind_of u.device) cdb bytes in
-    subst (Stays u n c) (sym e) (record { device = record { kind = refl; drives = refl }; lun = refl; units = refl; reservations = busy_keeps u.state.reservations n c })
+    let c = decoded_command (commands_of u.device) cdb bytes in
+    subst (Stays u n c) (sym e) (record { device = record { kind = refl; profile = refl; drives = refl }; lun = refl; units = refl; reservations = busy_keeps u.state.reservations n c })
 executes_stays u v n cdb bytes r (inr e) =
-    let c = decoded_command (kind_of u.device) cdb bytes in
+    let c = decoded_command (commands_of u.device) cdb bytes in
     let judged = judged_is (contacted_present u n) n c bytes in
     subst (Stays u n c) (sym e.2) (record { device = judged.same.device.device; lun = judged.same.lun; units = judged.same.units; reservations = judged.reservations })
 
 -- and no command of one unit changes the marks of its device
 pub executes_marks : (u v : UnitView) (n : Nexus) (cdb bytes : List ℕ) (r : Reply) → Executes u n cdb bytes (v, r) → KeepsMarks u.device v.device
 executes_marks u v n cdb bytes r (inl e) =
-    subst (λ (x : UnitView × Reply). KeepsMarks u.device x.0.device) (sym e) (record { device = record { kind = refl; drives = refl }; marks = refl })
+    subst (λ (x : UnitView × Reply). KeepsMarks u.device x.0.device) (sym e) (record { device = record { kind = refl; profile = refl; drives = refl }; marks = refl })
 executes_marks u v n cdb bytes r (inr e) =
-    subst (λ (x : UnitView × Reply). KeepsMarks u.device x.0.device) (sym e.2) (judged_is (contacted_present u n) n (decoded_command (kind_of u.device) cdb bytes) bytes).same.device
+    subst (λ (x : UnitView × Reply). KeepsMarks u.device x.0.device) (sym e.2) (judged_is (contacted_present u n) n (decoded_command (commands_of u.device) cdb bytes) bytes).same.device
 
 pub executes_keeps : (u v : UnitView) (n : Nexus) (cdb bytes : List ℕ) (r : Reply) → Executes u n cdb bytes (v, r)
-    → v.state.reservations ≡ after_history u.state.reservations (accepted_by (kind_of u.device) n cdb bytes r.status)
+    → v.state.reservations ≡ after_history u.state.reservations (accepted_by (commands_of u.device) n cdb bytes r.status)
 executes_keeps u v n cdb bytes r e = (executes_stays u v n cdb bytes r e).reservations
 
 pub answers_no_busy : AnswersNoBusy
-answers_no_busy u n cdb bytes = judged_free (contacted_present u n) n (decoded_command (kind_of u.device) cdb bytes) bytes
+answers_no_busy u n cdb bytes = judged_free (contacted_present u n) n (decoded_command (commands_of u.device) cdb bytes) bytes

@@ -1,5 +1,5 @@
 -- In a legal trail each record changes the registrations, the reservation and the generation as the accepted history says.
-use Rattle.std.proofs.Common.{◌≡◌, ◌≢◌, Bool, true, false, List, [], ◌∷◌, ◌++◌, Option, Some, None, refl, sym, ap, ◌∙◌}
+use Rattle.std.proofs.Common.{◌≡◌, ◌≢◌, List, [], ◌∷◌, ◌++◌, Option, Some, None, refl, sym, ap, ◌∙◌}
 use Rattle.scsi_cdb.specs.declared.classes.Class.{Class}
 use Rattle.scsi_cdb.specs.declared.classes.Class.TheVariants as class
 use Rattle.scsi_cdb.specs.Classes.{class_of_action}
@@ -22,7 +22,7 @@ use Rattle.audit_log.specs.declared.stage.Stage.TheVariants.{Decoding, ResetAtte
 use Rattle.judgement.specs.Conditions.{condition_of_attention, condition_of_refusal}
 use Rattle.judgement.specs.Replies.{conflict, check, good}
 use Rattle.judgement.specs.UnitStateView.{UnitStateView}
-use Rattle.judgement.specs.UnitState.{after_contact, after_mode}
+use Rattle.judgement.specs.UnitState.{after_contact, after_telling}
 use Rattle.judgement.specs.Readings.{verdict_by, pending_of}
 use Rattle.judgement.specs.Decisions.{at_stage, let_in, in_conflict}
 use Rattle.judgement.specs.History.{Accepted, after_history}
@@ -33,24 +33,24 @@ reported_leaves : (k : UnitStateView) (n : Nexus) (o : Option Kind) → (reporte
 reported_leaves k n None = refl
 reported_leaves k n (Some kind) = refl
 
-mode_leaves : (k : UnitStateView) (n : Nexus) (changed : Bool) → (after_mode k n changed).reservations ≡ k.reservations
-mode_leaves k n true = refl
-mode_leaves k n false = refl
+telling_leaves : (k : UnitStateView) (n : Nexus) (told : Option Kind) → (after_telling k n told).reservations ≡ k.reservations
+telling_leaves k n None = refl
+telling_leaves k n (Some kind) = refl
 
 -- a command without a list leaves the reservations
-class_leaves : (k : UnitStateView) (n : Nexus) (class : Class) (changed : Bool) → (left_by_class k n class changed).reservations ≡ k.reservations
-class_leaves k n class.RequestSense changed = reported_leaves k n (pending_of k.slots n)
-class_leaves k n class.PreventRemoval changed = refl
-class_leaves k n class.AllowRemoval changed = refl
-class_leaves k n class changed = mode_leaves k n changed
+class_leaves : (k : UnitStateView) (n : Nexus) (class : Class) (told : Option Kind) → (left_by_class k n class told).reservations ≡ k.reservations
+class_leaves k n class.RequestSense told = reported_leaves k n (pending_of k.slots n)
+class_leaves k n class.PreventRemoval told = refl
+class_leaves k n class.AllowRemoval told = refl
+class_leaves k n class told = telling_leaves k n told
 
-listless_leaves : (stage : Stage) (k : UnitStateView) (n : Nexus) (class : Class) (s : Status) (changed : Bool) → (left_at stage k n None class s changed).reservations ≡ k.reservations
-listless_leaves ResetAttention k n class s changed = reported_leaves k n (waiting class (first_reset_of k.slots n))
-listless_leaves OtherAttention k n class s changed = reported_leaves k n (waiting class (first_other_of k.slots n))
-listless_leaves Device k n class s changed = class_leaves k n class changed
-listless_leaves Decoding k n class s changed = refl
-listless_leaves ReservationCheck k n class s changed = refl
-listless_leaves Fields k n class s changed = refl
+listless_leaves : (stage : Stage) (k : UnitStateView) (n : Nexus) (class : Class) (s : Status) (told : Option Kind) → (left_at stage k n None class s told).reservations ≡ k.reservations
+listless_leaves ResetAttention k n class s told = reported_leaves k n (waiting class (first_reset_of k.slots n))
+listless_leaves OtherAttention k n class s told = reported_leaves k n (waiting class (first_other_of k.slots n))
+listless_leaves Device k n class s told = class_leaves k n class told
+listless_leaves Decoding k n class s told = refl
+listless_leaves ReservationCheck k n class s told = refl
+listless_leaves Fields k n class s told = refl
 
 -- PERSISTENT RESERVE OUT that is GOOD came to the last stage
 GoodAtDevice : Record → Type 0
@@ -93,38 +93,38 @@ module _ (k : UnitStateView) (n : Nexus) (p : OutParams) (class : Class) (e : Re
       ]
 
 -- one with a list changes them as the history says
-list_leaves : (stage : Stage) (k : UnitStateView) (n : Nexus) (p : OutParams) (class : Class) (s : Status) (changed : Bool) → (s ≡ Good → stage ≡ Device)
-    → (left_at stage k n (Some p) class s changed).reservations ≡ after_history k.reservations (accepted_of (Some n) (ReserveOut p) s)
-list_leaves Device k n p class Good changed h = refl
-list_leaves Device k n p class CheckCondition changed h = refl
-list_leaves Device k n p class Busy changed h = refl
-list_leaves Device k n p class ReservationConflict changed h = refl
-list_leaves ResetAttention k n p class Good changed h = absurd (let is = h refl in cc)
-list_leaves ResetAttention k n p class CheckCondition changed h = reported_leaves k n (waiting class (first_reset_of k.slots n))
-list_leaves ResetAttention k n p class Busy changed h = reported_leaves k n (waiting class (first_reset_of k.slots n))
-list_leaves ResetAttention k n p class ReservationConflict changed h = reported_leaves k n (waiting class (first_reset_of k.slots n))
-list_leaves OtherAttention k n p class Good changed h = absurd (let is = h refl in cc)
-list_leaves OtherAttention k n p class CheckCondition changed h = reported_leaves k n (waiting class (first_other_of k.slots n))
-list_leaves OtherAttention k n p class Busy changed h = reported_leaves k n (waiting class (first_other_of k.slots n))
-list_leaves OtherAttention k n p class ReservationConflict changed h = reported_leaves k n (waiting class (first_other_of k.slots n))
-list_leaves Decoding k n p class Good changed h = absurd (let is = h refl in cc)
-list_leaves Decoding k n p class CheckCondition changed h = refl
-list_leaves Decoding k n p class Busy changed h = refl
-list_leaves Decoding k n p class ReservationConflict changed h = refl
-list_leaves ReservationCheck k n p class Good changed h = absurd (let is = h refl in cc)
-list_leaves ReservationCheck k n p class CheckCondition changed h = refl
-list_leaves ReservationCheck k n p class Busy changed h = refl
-list_leaves ReservationCheck k n p class ReservationConflict changed h = refl
-list_leaves Fields k n p class Good changed h = absurd (let is = h refl in cc)
-list_leaves Fields k n p class CheckCondition changed h = refl
-list_leaves Fields k n p class Busy changed h = refl
-list_leaves Fields k n p class ReservationConflict changed h = refl
+list_leaves : (stage : Stage) (k : UnitStateView) (n : Nexus) (p : OutParams) (class : Class) (s : Status) (told : Option Kind) → (s ≡ Good → stage ≡ Device)
+    → (left_at stage k n (Some p) class s told).reservations ≡ after_history k.reservations (accepted_of (Some n) (ReserveOut p) s)
+list_leaves Device k n p class Good told h = refl
+list_leaves Device k n p class CheckCondition told h = refl
+list_leaves Device k n p class Busy told h = refl
+list_leaves Device k n p class ReservationConflict told h = refl
+list_leaves ResetAttention k n p class Good told h = absurd (let is = h refl in cc)
+list_leaves ResetAttention k n p class CheckCondition told h = reported_leaves k n (waiting class (first_reset_of k.slots n))
+list_leaves ResetAttention k n p class Busy told h = reported_leaves k n (waiting class (first_reset_of k.slots n))
+list_leaves ResetAttention k n p class ReservationConflict told h = reported_leaves k n (waiting class (first_reset_of k.slots n))
+list_leaves OtherAttention k n p class Good told h = absurd (let is = h refl in cc)
+list_leaves OtherAttention k n p class CheckCondition told h = reported_leaves k n (waiting class (first_other_of k.slots n))
+list_leaves OtherAttention k n p class Busy told h = reported_leaves k n (waiting class (first_other_of k.slots n))
+list_leaves OtherAttention k n p class ReservationConflict told h = reported_leaves k n (waiting class (first_other_of k.slots n))
+list_leaves Decoding k n p class Good told h = absurd (let is = h refl in cc)
+list_leaves Decoding k n p class CheckCondition told h = refl
+list_leaves Decoding k n p class Busy told h = refl
+list_leaves Decoding k n p class ReservationConflict told h = refl
+list_leaves ReservationCheck k n p class Good told h = absurd (let is = h refl in cc)
+list_leaves ReservationCheck k n p class CheckCondition told h = refl
+list_leaves ReservationCheck k n p class Busy told h = refl
+list_leaves ReservationCheck k n p class ReservationConflict told h = refl
+list_leaves Fields k n p class Good told h = absurd (let is = h refl in cc)
+list_leaves Fields k n p class CheckCondition told h = refl
+list_leaves Fields k n p class Busy told h = refl
+list_leaves Fields k n p class ReservationConflict told h = refl
 
 -- one record
 pub one_shows : (k : UnitStateView) (nexus : Option Nexus) (act : Act) (e : Record) → IsJudgedAs k nexus act e
-    → (left_as k nexus act e.stage e.status e.mode_changed).reservations ≡ after_history k.reservations (accepted_of nexus act e.status)
-one_shows k (Some n) (Command class) e j = listless_leaves e.stage (after_contact k n) n class e.status e.mode_changed
-one_shows k (Some n) (ReserveOut p) e j = list_leaves e.stage (after_contact k n) n p (class_of_action p.act) e.status e.mode_changed (commanded (after_contact k n) n p (class_of_action p.act) e j.judged)
+    → (left_as k nexus act e.stage e.status e.told).reservations ≡ after_history k.reservations (accepted_of nexus act e.status)
+one_shows k (Some n) (Command class) e j = listless_leaves e.stage (after_contact k n) n class e.status e.told
+one_shows k (Some n) (ReserveOut p) e j = list_leaves e.stage (after_contact k n) n p (class_of_action p.act) e.status e.told (commanded (after_contact k n) n p (class_of_action p.act) e j.judged)
 one_shows k (Some n) Invalid e j = refl
 one_shows k (Some n) Loss e j = refl
 one_shows k (Some n) Reset e j = absurd j

@@ -14,7 +14,7 @@ use Rattle.scsi_sense.specs.declared.condition.Condition.TheVariants.{InternalTa
 use Rattle.scsi_sense.specs.declared.sense.Sense.{Sense}
 use Rattle.scsi_sense.specs.declared.status.Status.{Status}
 use Rattle.unit_attention.specs.declared.kind.Kind.{Kind}
-use Rattle.unit_attention.specs.declared.kind.Kind.TheVariants.{PowerOn, BusDeviceReset, NexusLoss, MediumChanged, ModeParametersChanged, ReservationsPreempted, ReservationsReleased, RegistrationsPreempted}
+use Rattle.unit_attention.specs.declared.kind.Kind.TheVariants.{PowerOn, BusDeviceReset, NexusLoss, MediumChanged, ModeParametersChanged, LogParametersChanged, ReservationsPreempted, ReservationsReleased, RegistrationsPreempted}
 use Rattle.unit_attention.specs.Queues.{slot_of, contacted, first_reset_of, first_other_of}
 use Rattle.permit_tables.specs.declared.cell.Cell.{Cell}
 use Rattle.pr_core.specs.declared.verdict.Verdict.{Verdict}
@@ -26,7 +26,7 @@ use Rattle.audit_log.specs.declared.act.Act.{Act}
 use Rattle.audit_log.specs.declared.act.Act.TheVariants as act
 use Rattle.audit_log.specs.declared.record.Record.{Record}
 use Rattle.audit_log.specs.declared.stage.Stage.TheVariants.{ResetAttention, OtherAttention}
-use Rattle.device_server.specs.View.{DeviceView, Drive, Changer, kind_of, drives_of}
+use Rattle.device_server.specs.View.{DeviceView, Drive, Changer, kind_of, commands_of, drives_of}
 use Rattle.device_server.specs.Changer.{carried, moved_alone, move_condition}
 use Rattle.device_server.specs.Outcomes.{refused}
 use Rattle.device_server.specs.declared.outcome.Outcome.{Outcome}
@@ -36,7 +36,7 @@ use Rattle.judgement.specs.declared.reply.Reply.{Reply}
 use Rattle.judgement.specs.declared.command.Command.{Command}
 use Rattle.judgement.specs.declared.command.Command.TheVariants.{Device}
 use Rattle.judgement.specs.Commands.{class_of_command, command_of, decoded_command, act_of_decoded}
-use Rattle.judgement.specs.UnitState.{has_room, after_contact, after_mode}
+use Rattle.judgement.specs.UnitState.{has_room, after_contact, after_telling}
 use Rattle.judgement.specs.UnitStateView.{UnitStateView}
 use Rattle.judgement.specs.Readings.{verdict_of}
 use Rattle.unit_attention.proofs.Contact.{first_reset_new}
@@ -58,6 +58,7 @@ attention_ends BusDeviceReset l = cc
 attention_ends NexusLoss l = cc
 attention_ends MediumChanged l = cc
 attention_ends ModeParametersChanged l = cc
+attention_ends LogParametersChanged l = cc
 attention_ends ReservationsPreempted l = cc
 attention_ends ReservationsReleased l = cc
 attention_ends RegistrationsPreempted l = cc
@@ -141,14 +142,14 @@ left_by e s d None l = record { free = refl; same = left_alone e (moves e s d) l
 -- a unit's device as it carries out a move, with what is kept
 abbrev pub after_step : UnitStateView → Nexus → Cell → Elements × Outcome → JudgedUnit × Decision × Reply
 after_step k n at step = at_cell at (
-  record { device = Changer step.0; state = after_mode k n step.1.mode_changed },
+  record { device = Changer step.0; state = after_telling k n step.1.told },
   at_device
-      step.1.mode_changed,
+      step.1.told,
   replied step.1,
 )
 
 abbrev pub left_answer : Elements → UnitStateView → Cell → JudgedUnit × Decision × Reply
-left_answer e k at = (record { device = Changer e; state = k }, in_cell at (at_device false), check InternalTargetFailure)
+left_answer e k at = (record { device = Changer e; state = k }, in_cell at (at_device None), check InternalTargetFailure)
 
 pub record IsLeftAt (e : Elements) (k : UnitStateView) (at : Cell) (t s d : ℕ) (x : JudgedUnit × Decision × Reply) : Type 0 where
   pub free : move_refusal e t s d ≡ None
@@ -175,7 +176,7 @@ known k n None h ready = let first = first_reset_new k.slots n h in absurd cc
 
 -- any whole answer may end a command that goes on
 own_says : (m : ℕ) (n : Nexus) (at : Cell) (status : Status) (sense : Option Sense) → at.class ≡ MoveMedium → IsWhole status sense
-    → SaysItsOwn (record_of m (Some n) (act.Command MoveMedium) (in_cell at (at_device false)) status sense) at
+    → SaysItsOwn (record_of m (Some n) (act.Command MoveMedium) (in_cell at (at_device None)) status sense) at
 own_says m n at status sense class whole = record {
   stage = inr refl;
   cell = refl;
@@ -183,7 +184,7 @@ own_says m n at status sense class whole = record {
   whole = whole;
   fields = λ e. absurd cc;
   unit = λ own e. absurd cc;
-  mode = λ e. absurd cc;
+  told = λ kind e. absurd cc;
 }
 
 module _ (device : DeviceView) (k : UnitStateView) (n : Nexus) (t s d : ℕ) (i : Bool) where
@@ -194,7 +195,7 @@ module _ (device : DeviceView) (k : UnitStateView) (n : Nexus) (t s d : ℕ) (i 
   move = Device (request.MoveMedium t s d i)
 
   abbrev pub found : Decision
-  found = in_cell (cell_of unit n move) (at_device false)
+  found = in_cell (cell_of unit n move) (at_device None)
 
   -- what a record says, by what each stage tests
   module _ (e : Record) where
@@ -246,20 +247,20 @@ pub record Opens (device : DeviceView) (k : UnitStateView) (n : Nexus) (cdb byte
 
 pub opens : (device : DeviceView) (k : UnitStateView) (n : Nexus) (cdb bytes : List ℕ) (r : Route) (s : Result Command Condition) (a : Act)
     (after : JudgedUnit) (f : Decision) (reply : Reply)
-    → kind_of device ≡ kind.Changer → DecodesTo (drives_of device) cdb r → has_room k n ≡ true → s ≡ decoded_command (kind_of device) cdb
+    → kind_of device ≡ kind.Changer → DecodesTo (commands_of device) (drives_of device) cdb r → has_room k n ≡ true → s ≡ decoded_command (commands_of device) cdb
     bytes → a ≡ act_of_decoded s
     → judged_as (record { device = device; state = after_contact k n }) n s bytes ≡ (after, f, reply) → is_left reply.sense ≡ true
     → Opens device k n cdb bytes r a after f (judged_as (record { device = device; state = after_contact k n }) n
-    (decoded_command (kind_of device) cdb bytes) bytes)
+    (decoded_command (commands_of device) cdb bytes) bytes)
 opens (Drive v) k n cdb bytes r s a after f reply changer decodes room spelt asked judged l = absurd cc
 opens (Changer e) k n cdb bytes r s a after f reply changer decodes room spelt asked judged l =
     let u : JudgedUnit = record { device = Changer e; state = after_contact k n } in
     let c : Command = Device (request.MoveMedium decodes.transport r.source r.destination decodes.invert) in
-    let is : decoded_command kind.Changer cdb bytes ≡ Ok c = ap (λ (o : Result Request CdbFault). elim o
+    let is : decoded_command (commands_of (Changer e)) cdb bytes ≡ Ok c = ap (λ (o : Result Request CdbFault). elim o
     [ Ok q ↦ command_of q bytes | Err fault ↦ Err (condition_of_fault fault) ]) decodes.reads in
     let judged_is : commanded u n c bytes ≡ (after, f, reply) = sym (ap (λ (x : Result Command Condition). judged_as u n x bytes)
     (spelt ∙ is)) ∙ judged in
-    let at_changer : judged_as u n (decoded_command kind.Changer cdb bytes) bytes ≡ commanded u n c bytes = ap
+    let at_changer : judged_as u n (decoded_command (commands_of (Changer e)) cdb bytes) bytes ≡ commanded u n c bytes = ap
     (λ (x : Result Command Condition). judged_as u n x bytes) is in
     let left_here : is_left (commanded u n c bytes).2.sense ≡ true = ap (λ (x : JudgedUnit × Decision × Reply). is_left x.2.sense) judged_is
     ∙ l in
@@ -268,7 +269,7 @@ opens (Changer e) k n cdb bytes r s a after f reply changer decodes room spelt a
     (subst (λ (x : JudgedUnit × Decision × Reply). is_left x.2.sense ≡ true) own.by_rules left_here) in
     let answer : commanded u n c bytes ≡ left_answer e (after_contact k n) (cell_of u n c) = own.by_rules ∙ by.answer in
     let met_is : after_contact k n ≡ k = known k n (slot_of k.slots n) refl own.goes_on.ready in
-    let decision_is : in_cell (cell_of u n c) (at_device false) ≡ f = sym (ap (λ (x : JudgedUnit × Decision × Reply). x.1) answer) ∙ ap
+    let decision_is : in_cell (cell_of u n c) (at_device None) ≡ f = sym (ap (λ (x : JudgedUnit × Decision × Reply). x.1) answer) ∙ ap
     (λ (x : JudgedUnit × Decision × Reply). x.1) judged_is in
     let asked_is : act.Command MoveMedium ≡ a = sym (asked ∙ ap act_of_decoded (spelt ∙ is)) in
     record {

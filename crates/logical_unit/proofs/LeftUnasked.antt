@@ -131,7 +131,7 @@ pub left_at : (device : DeviceView) (old new : UnitStateView) (n : Nexus) (s : R
     → kind_of device ≡ kind.Changer → s ≡ Ok c → spells_move s ≡ true → leaves device c ≡ true → ComesThrough commanded is_carried_out old
     new n c at
     → judged_as (record { device = device; state = after_contact old n }) n s bytes
-    ≡ (record { device = device; state = after_contact new n }, in_cell at (at_device false), check InternalTargetFailure)
+    ≡ (record { device = device; state = after_contact new n }, in_cell at (at_device None), check InternalTargetFailure)
 left_at (Drive v) old new n s c at bytes changer is move left h = absurd cc
 left_at (Changer e) old new n s c at bytes changer is move left h =
     ap (λ (x : Result Command Condition). judged_as (record { device = Changer e; state = after_contact old n }) n x bytes) is

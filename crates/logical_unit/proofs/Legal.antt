@@ -52,10 +52,10 @@ entry m n a x = record_of m (Some n) a x.1 x.2.status x.2.sense
 
 -- a judgement's record says the right thing, and what is kept is what it leaves
 abbrev pub Fits : (Record → Type 0) → UnitStateView → Nexus → Command → ℕ → Act → JudgedUnit × Decision × Reply → Type 0
-Fits J k n c m a x = J (entry m n a x) × (x.0.state ≡ left_at x.1.stage k n (list_of c) (class_of_command c) x.2.status x.1.mode_changed)
+Fits J k n c m a x = J (entry m n a x) × (x.0.state ≡ left_at x.1.stage k n (list_of c) (class_of_command c) x.2.status x.1.told)
 
 says : (m : ℕ) (n : Nexus) (a : Act) (f : Decision) (r : Reply) → Says (record_of m (Some n) a f r.status r.sense) f r
-says m n a f r = record { stage = refl; cell = refl; rule = refl; mode_changed = refl; status = refl; sense = refl }
+says m n a f r = record { stage = refl; cell = refl; rule = refl; told = refl; status = refl; sense = refl }
 
 -- GOOD at the device's stage, and fields that are refused
 good_says : (m : ℕ) (n : Nexus) (a : Act) (at : Cell) (payload : List ℕ) → SaysItsOwn (record_of m (Some n) a (let_in at stage.Device) (good payload).status (good payload).sense) at
@@ -66,7 +66,7 @@ good_says m n a at payload = record {
   whole = inl (refl, refl);
   fields = λ e. absurd cc;
   unit = λ own e. refl;
-  mode = λ e. absurd cc;
+  told = λ kind e. absurd cc;
 }
 
 field_says : (m : ℕ) (n : Nexus) (a : Act) (at : Cell) (condition : Condition) → is_field_fault at.class condition ≡ true
@@ -78,7 +78,7 @@ field_says m n a at condition h = record {
   whole = inr (refl, refl);
   fields = λ e. record { condition = condition; of_class = h; status = refl; sense = refl };
   unit = λ own e. absurd cc;
-  mode = λ e. absurd cc;
+  told = λ kind e. absurd cc;
 }
 
 data_says : (m : ℕ) (n : Nexus) (a : Act) (at : Cell) (o : Option (List ℕ)) (l : ℕ) → is_field_fault at.class InvalidFieldInCdb ≡ true
@@ -86,7 +86,7 @@ data_says : (m : ℕ) (n : Nexus) (a : Act) (at : Cell) (o : Option (List ℕ)) 
 data_says m n a at (Some payload) l h = good_says m n a at payload
 data_says m n a at None l h = field_says m n a at InvalidFieldInCdb h
 
-data_left : (k : UnitStateView) (n : Nexus) (class : Class) (s : Status) (o : Option (List ℕ)) (l : ℕ) → k ≡ left_by_class k n class false → k ≡ left_at (data_reply o l).0 k n None class s false
+data_left : (k : UnitStateView) (n : Nexus) (class : Class) (s : Status) (o : Option (List ℕ)) (l : ℕ) → k ≡ left_by_class k n class None → k ≡ left_at (data_reply o l).0 k n None class s None
 data_left k n class s (Some payload) l h = h
 data_left k n class s None l h = refl
 
@@ -97,7 +97,7 @@ sensed_fits u n at l m a None h = (good_says m n a at [], sym (ap (reported_if u
 
 prevent_fits : (u : JudgedUnit) (n : Nexus) (at : Cell) (m : ℕ) (a : Act) (zero one : Bool) → at.class ≡ (if zero then class.AllowRemoval else class.PreventRemoval)
     → SaysItsOwn (entry m n a (at_cell at (prevents_by u n zero one))) at
-    × ((prevents_by u n zero one).0.state ≡ left_at (prevents_by u n zero one).1.stage u.state n None (if zero then class.AllowRemoval else class.PreventRemoval) (prevents_by u n zero one).2.status (prevents_by u n zero one).1.mode_changed)
+    × ((prevents_by u n zero one).0.state ≡ left_at (prevents_by u n zero one).1.stage u.state n None (if zero then class.AllowRemoval else class.PreventRemoval) (prevents_by u n zero one).2.status (prevents_by u n zero one).1.told)
 prevent_fits u n at m a true one h = (good_says m n a at [], refl)
 prevent_fits u n at m a false true h = (good_says m n a at [], refl)
 prevent_fits u n at m a false false h = (field_says m n a at InvalidFieldInCdb (ap (λ k. is_field_fault k InvalidFieldInCdb) h), refl)
@@ -112,9 +112,9 @@ steps_fits u n r bytes m a plain true = (
     whole = inr (refl, refl);
     fields = λ e. absurd cc;
     unit = λ own e. let no = plain.own in absurd cc;
-    mode = λ e. absurd cc;
+    told = λ kind e. absurd cc;
   },
-  plain.tells u.state n false,
+  plain.tells u.state n None,
 )
 steps_fits u n r bytes m a plain false =
     let own = performed_own u.device r bytes in (
@@ -125,9 +125,9 @@ steps_fits u n r bytes m a plain false =
         whole = own.ended;
         fields = λ e. absurd cc;
         unit = λ every e. let no = plain.own in absurd cc;
-        mode = λ e. let changed = own.mode e in record { class = changed.0; stage = refl; status = changed.1 };
+        told = λ kind e. let telling = own.told kind e in record { class = telling.0; stage = refl; status = telling.1 };
       },
-      plain.tells u.state n (performed u.device r bytes).1.mode_changed,
+      plain.tells u.state n (performed u.device r bytes).1.told,
     )
 
 performs_fits : (u : JudgedUnit) (n : Nexus) (r : Request) (bytes : List ℕ) (m : ℕ) (a : Act) → IsPlain (Device r)
@@ -260,17 +260,17 @@ ended_stands base state es n status sense a f m old awaits whole =
 -- the record of a loss, and of a reset
 pub lost_stands : (base state : UnitStateView) (es : List Record) (n : Nexus) (m : ℕ) → has_slot state.slots n ≡ true → Stands base es state → Stands base (es ++ event_of m (Some n) act.Loss ∷ []) (kept_after_loss state n)
 lost_stands base state es n m slot old =
-    next_stands base state (kept_after_loss state n) es (event_of m (Some n) act.Loss) old (record { judged = record { slot = slot; says = record { stage = refl; cell = refl; rule = refl; mode_changed = refl; status = refl; sense = refl } }; state = refl })
+    next_stands base state (kept_after_loss state n) es (event_of m (Some n) act.Loss) old (record { judged = record { slot = slot; says = record { stage = refl; cell = refl; rule = refl; told = refl; status = refl; sense = refl } }; state = refl })
 
 pub reset_stands : (base state : UnitStateView) (es : List Record) (m : ℕ) → Stands base es state → Stands base (es ++ event_of m None act.Reset ∷ []) (kept_after_reset state)
 reset_stands base state es m old =
-    next_stands base state (kept_after_reset state) es (event_of m None act.Reset) old (record { judged = record { stage = refl; cell = refl; rule = refl; mode_changed = refl; status = refl; sense = refl }; state = refl })
+    next_stands base state (kept_after_reset state) es (event_of m None act.Reset) old (record { judged = record { stage = refl; cell = refl; rule = refl; told = refl; status = refl; sense = refl }; state = refl })
 
 -- the record of a volume that came in, and of one that was taken out
 pub medium_in_stands : (base state : UnitStateView) (es : List Record) (m : ℕ) → Stands base es state → Stands base (es ++ event_of m None act.MediumIn ∷ []) (with_medium state)
 medium_in_stands base state es m old =
-    next_stands base state (with_medium state) es (event_of m None act.MediumIn) old (record { judged = record { stage = refl; cell = refl; rule = refl; mode_changed = refl; status = refl; sense = refl }; state = refl })
+    next_stands base state (with_medium state) es (event_of m None act.MediumIn) old (record { judged = record { stage = refl; cell = refl; rule = refl; told = refl; status = refl; sense = refl }; state = refl })
 
 pub medium_out_stands : (base state : UnitStateView) (es : List Record) (m : ℕ) → is_prevented state ≡ false → Stands base es state → Stands base (es ++ event_of m None act.MediumOut ∷ []) state
 medium_out_stands base state es m free old =
-    next_stands base state state es (event_of m None act.MediumOut) old (record { judged = record { free = free; says = record { stage = refl; cell = refl; rule = refl; mode_changed = refl; status = refl; sense = refl } }; state = refl })
+    next_stands base state state es (event_of m None act.MediumOut) old (record { judged = record { free = free; says = record { stage = refl; cell = refl; rule = refl; told = refl; status = refl; sense = refl } }; state = refl })

@@ -1,3 +1,4 @@
+pub mod AtOnce
 pub mod History
 pub mod DeviceCommands
 pub mod FieldFaults

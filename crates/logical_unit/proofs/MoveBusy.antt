@@ -4,7 +4,7 @@ use Rattle.std.specs.Prelude.{◌⊎◌}
 use Rattle.scsi_nexus.specs.declared.nexus.Nexus.{Nexus}
 use Rattle.scsi_sense.specs.declared.condition.Condition.{Condition}
 use Rattle.scsi_sense.specs.declared.status.Status.TheVariants.{Busy}
-use Rattle.device_server.specs.View.{kind_of, drives_of}
+use Rattle.device_server.specs.View.{commands_of, drives_of}
 use Rattle.judgement.specs.declared.reply.Reply.{Reply}
 use Rattle.judgement.specs.Commands.{decoded_command}
 use Rattle.judgement.specs.declared.command.Command.{Command}
@@ -19,14 +19,14 @@ use Rattle.logical_unit.proofs.NamedDrives.{has_route}
 use Rattle.logical_unit.proofs.SameUnits.{decodes_move}
 
 -- it takes no memory beside the room for records
-no_memory : (u : UnitView) (n : Nexus) (cdb bytes : List ℕ) (l : ℕ) (more : List ℕ) → named (drives_of u.device) cdb ≡ l ∷ more → takes_memory (contacted_present u n) n (decoded_command (kind_of u.device) cdb bytes) ≡ true → ⊥
+no_memory : (u : UnitView) (n : Nexus) (cdb bytes : List ℕ) (l : ℕ) (more : List ℕ) → named (commands_of u.device) (drives_of u.device) cdb ≡ l ∷ more → takes_memory (contacted_present u n) n (decoded_command (commands_of u.device) cdb bytes) ≡ true → ⊥
 no_memory u n cdb bytes l more names h =
     let is = decodes_move u.device cdb bytes l more (has_route u.device cdb l more names) in
     let none : false ≡ true = subst (λ (s : Result Command Condition). takes_memory (contacted_present u n) n s ≡ true) is h in
     cc
 
 -- where the changer answers it
-pub answered_lacks : (x y : UnitWithRoom) (n : Nexus) (cdb bytes : List ℕ) (reply : Reply) (l : ℕ) (more : List ℕ) → named (drives_of x.unit.device) cdb ≡ l ∷ more
+pub answered_lacks : (x y : UnitWithRoom) (n : Nexus) (cdb bytes : List ℕ) (reply : Reply) (l : ℕ) (more : List ℕ) → named (commands_of x.unit.device) (drives_of x.unit.device) cdb ≡ l ∷ more
     → IsPutOff x y n cdb bytes reply ⊎ IsEnded x y n cdb bytes reply → reply.status ≡ Busy → LacksAtChanger x n
 answered_lacks x y n cdb bytes reply l more names (inl off) busy = elim (off.only (sym (ap (λ (r : Reply). r.status) off.refuses) ∙ busy)) [
   | inl memory ↦ absurd (no_memory x.unit n cdb bytes l more names memory)

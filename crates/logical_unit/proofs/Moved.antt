@@ -5,7 +5,7 @@ use Rattle.std.specs.Prelude.{◌⊎◌, ◌≢◌, cond}
 use Rattle.scsi_nexus.specs.declared.nexus.Nexus.{Nexus}
 use Rattle.scsi_sense.specs.declared.condition.Condition.{Condition}
 use Rattle.scsi_sense.specs.declared.status.Status.TheVariants.{Busy}
-use Rattle.device_server.specs.View.{DeviceView, kind_of, drives_of}
+use Rattle.device_server.specs.View.{DeviceView, commands_of, drives_of}
 use Rattle.judgement.specs.JudgedUnit.{JudgedUnit}
 use Rattle.judgement.specs.declared.decision.Decision.{Decision}
 use Rattle.judgement.specs.declared.reply.Reply.{Reply}
@@ -30,7 +30,7 @@ pub record Ends (c v : UnitView) (n : Nexus) (cdb bytes : List ℕ) (r : Reply) 
   pub found : (judged_at c n cdb bytes).1 ≡ decision
   pub present : (judged_at c n cdb bytes).0 ≡ record { device = c.device; state = c.state }
   pub ways : (route : Route) → route_at c cdb ≡ Some route → HasWays c.device route
-  pub unit : (v, r) ≡ recorded c n (act_of (kind_of c.device) cdb bytes) (record { device = device; state = c.state }, decision, reply)
+  pub unit : (v, r) ≡ recorded c n (act_of (commands_of c.device) cdb bytes) (record { device = device; state = c.state }, decision, reply)
 
 -- the three ways, with the drives before and after; what the changer answered alone, but for BUSY, wasn't left
 abbrev pub IsAlone : {A : Type 0} → UnitView → UnitView → Nexus → (cdb bytes : List ℕ) → Reply → (drives after : A) → Type 0
@@ -64,10 +64,10 @@ concluded_by b alone left = cond b left alone
 module _ {A : Type 0} (c v : UnitView) (n : Nexus) (cdb bytes : List ℕ) (r : Reply) (drives after : A) where
   -- the answer of a changer that was left a move, whatever is reported
   ends_by : (l : ℕ) (more : List ℕ) (device : DeviceView) (reply : Reply) → HasRoute c.device cdb l more → has_room c.state n ≡ true → HasNumber c → is_left (judged_at c n cdb bytes).2.sense ≡ true
-      → (v, r) ≡ recorded c n (act_of (kind_of c.device) cdb bytes) (record (judged_at c n cdb bytes).0 { device = device }, (judged_at c n cdb bytes).1, reply) → Ends c v n cdb bytes r device reply
+      → (v, r) ≡ recorded c n (act_of (commands_of c.device) cdb bytes) (record (judged_at c n cdb bytes).0 { device = device }, (judged_at c n cdb bytes).1, reply) → Ends c v n cdb bytes r device reply
   ends_by l more device reply route room number left unit =
       let j = judged_at c n cdb bytes in
-      let o = opens c.device c.state n cdb bytes route.route (decoded_command (kind_of c.device) cdb bytes) (act_of (kind_of c.device) cdb bytes) j.0 j.1 j.2 route.changer route.decodes room refl refl refl left in
+      let o = opens c.device c.state n cdb bytes route.route (decoded_command (commands_of c.device) cdb bytes) (act_of (commands_of c.device) cdb bytes) j.0 j.1 j.2 route.changer route.decodes room refl refl refl left in
       record {
         room = room;
         number = number;
@@ -76,7 +76,7 @@ module _ {A : Type 0} (c v : UnitView) (n : Nexus) (cdb bytes : List ℕ) (r : R
         found = refl;
         present = o.present;
         ways = λ other is. subst (HasWays c.device) (some_is route.route other (sym route.is ∙ is)) o.ways;
-        unit = unit ∙ ap (λ (p : JudgedUnit). recorded c n (act_of (kind_of c.device) cdb bytes) (record p { device = device }, j.1, reply)) o.present;
+        unit = unit ∙ ap (λ (p : JudgedUnit). recorded c n (act_of (commands_of c.device) cdb bytes) (record p { device = device }, j.1, reply)) o.present;
       }
 
   became_left : (l : ℕ) (more : List ℕ) (carried now : Result (DeviceView × A) Condition) → carried ≡ now → HasRoute c.device cdb l more → has_room c.state n ≡ true → HasNumber c → is_left (judged_at c n cdb bytes).2.sense ≡ true
@@ -89,22 +89,22 @@ module _ {A : Type 0} (c v : UnitView) (n : Nexus) (cdb bytes : List ℕ) (r : R
       }))
   became_left l more carried (Err condition) is route room number left e =
       let j = judged_at c n cdb bytes in
-      let o = opens c.device c.state n cdb bytes route.route (decoded_command (kind_of c.device) cdb bytes) (act_of (kind_of c.device) cdb bytes) j.0 j.1 j.2 route.changer route.decodes room refl refl refl left in
+      let o = opens c.device c.state n cdb bytes route.route (decoded_command (commands_of c.device) cdb bytes) (act_of (commands_of c.device) cdb bytes) j.0 j.1 j.2 route.changer route.decodes room refl refl refl left in
       inr (inl (record {
         condition = condition;
         refused = is;
         ends = ends_by l more c.device (check condition) route room number left
-            (ap (λ (x : (UnitView × Reply) × A). x.0) e ∙ ap (λ (d : DeviceView). recorded c n (act_of (kind_of c.device) cdb bytes) (record j.0 { device = d }, j.1, check condition)) (ap (λ (p : JudgedUnit). p.device) o.present));
+            (ap (λ (x : (UnitView × Reply) × A). x.0) e ∙ ap (λ (d : DeviceView). recorded c n (act_of (commands_of c.device) cdb bytes) (record j.0 { device = d }, j.1, check condition)) (ap (λ (p : JudgedUnit). p.device) o.present));
         drives_stay = ap (λ (x : (UnitView × Reply) × A). x.1) e;
       }))
 
   became_by : (l : ℕ) (more : List ℕ) (b : Bool) (carried : Result (DeviceView × A) Condition) → is_left (judged_at c n cdb bytes).2.sense ≡ b → HasRoute c.device cdb l more → has_room c.state n ≡ true → HasNumber c
-      → ((v, r), after) ≡ concluded_by b (recorded c n (act_of (kind_of c.device) cdb bytes) (judged_at c n cdb bytes), drives) (ended c n cdb bytes drives (judged_at c n cdb bytes) carried) → Became c v n cdb bytes r drives after carried
+      → ((v, r), after) ≡ concluded_by b (recorded c n (act_of (commands_of c.device) cdb bytes) (judged_at c n cdb bytes), drives) (ended c n cdb bytes drives (judged_at c n cdb bytes) carried) → Became c v n cdb bytes r drives after carried
   became_by l more true carried left route room number e = became_left l more carried carried refl route room number left e
   became_by l more false carried left route room number e =
       inl (inr (room, number, ap (λ (x : (UnitView × Reply) × A). x.0) e), ap (λ (x : (UnitView × Reply) × A). x.1) e, λ free. left)
 
-  pub became : (l : ℕ) (more : List ℕ) (carried : Result (DeviceView × A) Condition) → named (drives_of c.device) cdb ≡ l ∷ more → has_room c.state n ≡ true → HasNumber c
+  pub became : (l : ℕ) (more : List ℕ) (carried : Result (DeviceView × A) Condition) → named (commands_of c.device) (drives_of c.device) cdb ≡ l ∷ more → has_room c.state n ≡ true → HasNumber c
       → ((v, r), after) ≡ concluded c n cdb bytes drives (judged_at c n cdb bytes) carried → Became c v n cdb bytes r drives after carried
   became l more carried names room number e = became_by l more (is_left (judged_at c n cdb bytes).2.sense) carried refl (has_route c.device cdb l more names) room number e
 
@@ -112,12 +112,12 @@ module _ {A : Type 0} (c v : UnitView) (n : Nexus) (cdb bytes : List ℕ) (r : R
   became_busy carried e =
       inl (inl (ap (λ (x : (UnitView × Reply) × A). x.0) e), ap (λ (x : (UnitView × Reply) × A). x.1) e, λ free. absurd (free (ap (λ (x : (UnitView × Reply) × A). x.0.1.status) e)))
 
-pub one_became : (c d v e : UnitView) (n : Nexus) (cdb bytes : List ℕ) (r : Reply) (l : ℕ) (more : List ℕ) → named (drives_of c.device) cdb ≡ l ∷ more → MovesOne c d n cdb bytes ((v, r), e)
+pub one_became : (c d v e : UnitView) (n : Nexus) (cdb bytes : List ℕ) (r : Reply) (l : ℕ) (more : List ℕ) → named (commands_of c.device) (drives_of c.device) cdb ≡ l ∷ more → MovesOne c d n cdb bytes ((v, r), e)
     → Became c v n cdb bytes r d e (carried_one c.device d (route_at c cdb))
 one_became c d v e n cdb bytes r l more names (inl is) = became_busy c v n cdb bytes r d e (carried_one c.device d (route_at c cdb)) is
 one_became c d v e n cdb bytes r l more names (inr h) = became c v n cdb bytes r d e l more (carried_one c.device d (route_at c cdb)) names h.0 h.1 h.3
 
-pub two_became : (c v : UnitView) (ds es : TwoDrives) (n : Nexus) (cdb bytes : List ℕ) (r : Reply) (l : ℕ) (more : List ℕ) → named (drives_of c.device) cdb ≡ l ∷ more → MovesTwo c ds n cdb bytes ((v, r), es)
+pub two_became : (c v : UnitView) (ds es : TwoDrives) (n : Nexus) (cdb bytes : List ℕ) (r : Reply) (l : ℕ) (more : List ℕ) → named (commands_of c.device) (drives_of c.device) cdb ≡ l ∷ more → MovesTwo c ds n cdb bytes ((v, r), es)
     → Became c v n cdb bytes r ds es (carried_two c.device ds (route_at c cdb))
 two_became c v ds es n cdb bytes r l more names (inl is) = became_busy c v n cdb bytes r ds es (carried_two c.device ds (route_at c cdb)) is
 two_became c v ds es n cdb bytes r l more names (inr h) = became c v n cdb bytes r ds es l more (carried_two c.device ds (route_at c cdb)) names h.0 h.1 h.3

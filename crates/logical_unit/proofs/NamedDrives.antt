@@ -4,8 +4,8 @@ use Rattle.std.proofs.lemmas.Bool.Decides.{nat_tests}
 use Rattle.std.specs.Prelude.{cond, nat_lt, ◌⊎◌}
 use Rattle.scsi_cdb.specs.Commands.{decoded}
 use Rattle.scsi_cdb.specs.declared.fault.CdbFault.{CdbFault}
-use Rattle.scsi_cdb.specs.declared.kind.Kind.{Kind}
 use Rattle.scsi_cdb.specs.declared.kind.Kind.TheVariants as kind
+use Rattle.scsi_cdb.specs.declared.profile.CommandSet.{CommandSet}
 use Rattle.scsi_cdb.specs.declared.request.Request.{Request}
 use Rattle.scsi_cdb.specs.declared.request.Request.TheVariants as request
 use Rattle.scsi_cdb.specs.declared.classes.Class.TheVariants as class
@@ -13,15 +13,15 @@ use Rattle.audit_log.specs.declared.act.Act.TheVariants as act
 use Rattle.judgement.specs.Conditions.{condition_of_fault}
 use Rattle.judgement.specs.Commands.{command_of, act_of, act_of_decoded}
 use Rattle.tape_medium.specs.Elements.{first_data_transfer, is_among}
-use Rattle.device_server.specs.View.{DeviceView, Drive, Changer, kind_of, drives_of}
+use Rattle.device_server.specs.View.{DeviceView, Drive, Changer, kind_of, commands_of, drives_of}
 use Rattle.logical_unit.specs.MoveJudgement.{DecodesTo}
 use Rattle.logical_unit.specs.Route.{drive_at, is_upward, route_in, route_of, named_by, named_in, named}
 use Rattle.logical_unit.specs.declared.route.Route.{Route}
 
 -- only a MOVE MEDIUM has a route
-decodes_in : (drives : ℕ) (cdb : List ℕ) (q : Request) (r : Route) → decoded kind.Changer cdb ≡ Ok q → route_in drives q ≡ Some r →
-    DecodesTo drives cdb r
-decodes_in drives cdb (request.MoveMedium transport source destination invert) r reads h =
+decodes_in : (commands : CommandSet) (drives : ℕ) (cdb : List ℕ) (q : Request) (r : Route) → decoded commands cdb ≡ Ok q → route_in drives q ≡ Some r →
+    DecodesTo commands drives cdb r
+decodes_in commands drives cdb (request.MoveMedium transport source destination invert) r reads h =
     let is : ◌≡◌ {A = Route} (record {
       source = source;
       destination = destination;
@@ -29,39 +29,40 @@ decodes_in drives cdb (request.MoveMedium transport source destination invert) r
       to = drive_at drives
           destination;
     }) r = cc in
-    subst (DecodesTo drives cdb) is (record { transport = transport; invert = invert; reads = reads; from = refl; to = refl })
-decodes_in drives cdb request.TestUnitReady r reads h = absurd cc
-decodes_in drives cdb request.Rewind r reads h = absurd cc
-decodes_in drives cdb (request.RequestSense desc l) r reads h = absurd cc
-decodes_in drives cdb request.ReadBlockLimits r reads h = absurd cc
-decodes_in drives cdb request.InitializeElementStatus r reads h = absurd cc
-decodes_in drives cdb (request.Read sili fixed l) r reads h = absurd cc
-decodes_in drives cdb (request.Write fixed l) r reads h = absurd cc
-decodes_in drives cdb (request.WriteFilemarks wsmk immed l) r reads h = absurd cc
-decodes_in drives cdb (request.Space code l) r reads h = absurd cc
-decodes_in drives cdb (request.Inquiry evpd page l) r reads h = absurd cc
-decodes_in drives cdb (request.ModeSelect sp l) r reads h = absurd cc
-decodes_in drives cdb request.Erase r reads h = absurd cc
-decodes_in drives cdb (request.ModeSense dbd pc page subpage l) r reads h = absurd cc
-decodes_in drives cdb (request.LoadUnload hold eot load) r reads h = absurd cc
-decodes_in drives cdb (request.PreventAllowMediumRemoval prevent) r reads h = absurd cc
-decodes_in drives cdb (request.Locate bt cp l) r reads h = absurd cc
-decodes_in drives cdb request.ReadPosition r reads h = absurd cc
-decodes_in drives cdb (request.PersistentReserveIn action l) r reads h = absurd cc
-decodes_in drives cdb (request.PersistentReserveOut action scope_type l) r reads h = absurd cc
-decodes_in drives cdb (request.ReportLuns select l) r reads h = absurd cc
-decodes_in drives cdb (request.ReadElementStatus voltag type_code start count curdata dvcid l) r reads h = absurd cc
+    subst (DecodesTo commands drives cdb) is (record { transport = transport; invert = invert; reads = reads; from = refl; to = refl })
+decodes_in commands drives cdb request.TestUnitReady r reads h = absurd cc
+decodes_in commands drives cdb request.Rewind r reads h = absurd cc
+decodes_in commands drives cdb (request.RequestSense desc l) r reads h = absurd cc
+decodes_in commands drives cdb request.ReadBlockLimits r reads h = absurd cc
+decodes_in commands drives cdb request.InitializeElementStatus r reads h = absurd cc
+decodes_in commands drives cdb (request.Read sili fixed l) r reads h = absurd cc
+decodes_in commands drives cdb (request.Write fixed l) r reads h = absurd cc
+decodes_in commands drives cdb (request.WriteFilemarks wsmk immed l) r reads h = absurd cc
+decodes_in commands drives cdb (request.Space code l) r reads h = absurd cc
+decodes_in commands drives cdb (request.Inquiry evpd page l) r reads h = absurd cc
+decodes_in commands drives cdb (request.ModeSelect sp l) r reads h = absurd cc
+decodes_in commands drives cdb request.Erase r reads h = absurd cc
+decodes_in commands drives cdb (request.ModeSense dbd pc page subpage l) r reads h = absurd cc
+decodes_in commands drives cdb (request.LoadUnload hold eot load) r reads h = absurd cc
+decodes_in commands drives cdb (request.PreventAllowMediumRemoval prevent) r reads h = absurd cc
+decodes_in commands drives cdb (request.Locate bt cp l) r reads h = absurd cc
+decodes_in commands drives cdb request.ReadPosition r reads h = absurd cc
+decodes_in commands drives cdb (request.PersistentReserveIn action l) r reads h = absurd cc
+decodes_in commands drives cdb (request.PersistentReserveOut action scope_type l) r reads h = absurd cc
+decodes_in commands drives cdb (request.ReportLuns select l) r reads h = absurd cc
+decodes_in commands drives cdb (request.ReadElementStatus voltag type_code start count curdata dvcid l) r reads h = absurd cc
+decodes_in commands drives cdb (request.Host command) r reads h = absurd cc
 
 abbrev pub route_by : ℕ → Result Request CdbFault → Option Route
 route_by drives o = elim o [ Ok q ↦ route_in drives q | Err fault ↦ None ]
 
-decodes_by : (drives : ℕ) (cdb : List ℕ) (o : Result Request CdbFault) (r : Route) → decoded kind.Changer cdb ≡ o → route_by drives o ≡ Some
-    r → DecodesTo drives cdb r
-decodes_by drives cdb (Ok q) r reads h = decodes_in drives cdb q r reads h
-decodes_by drives cdb (Err fault) r reads h = absurd cc
+decodes_by : (commands : CommandSet) (drives : ℕ) (cdb : List ℕ) (o : Result Request CdbFault) (r : Route) → decoded commands cdb ≡ o → route_by drives o ≡ Some
+    r → DecodesTo commands drives cdb r
+decodes_by commands drives cdb (Ok q) r reads h = decodes_in commands drives cdb q r reads h
+decodes_by commands drives cdb (Err fault) r reads h = absurd cc
 
-pub decodes : (drives : ℕ) (cdb : List ℕ) (r : Route) → route_of drives cdb ≡ Some r → DecodesTo drives cdb r
-decodes drives cdb r h = decodes_by drives cdb (decoded kind.Changer cdb) r refl h
+pub decodes : (commands : CommandSet) (drives : ℕ) (cdb : List ℕ) (r : Route) → route_of commands drives cdb ≡ Some r → DecodesTo commands drives cdb r
+decodes commands drives cdb r h = decodes_by commands drives cdb (decoded commands cdb) r refl h
 
 -- a drive that an address names
 drive_in : (among : Bool) (drives address l : ℕ) → is_among first_data_transfer drives address ≡ among → cond among (Some (address - 0xFF))
@@ -124,8 +125,8 @@ named_two (Some a) (Some b) l m more h = two_by (a == b) (nat_lt a b) a b l m mo
 -- the route of a command that names a drive, at a device that is a changer
 pub record HasRoute (device : DeviceView) (cdb : List ℕ) (l : ℕ) (more : List ℕ) : Type 0 where
   pub route : Route
-  pub is : route_of (drives_of device) cdb ≡ Some route
-  pub decodes : DecodesTo (drives_of device) cdb route
+  pub is : route_of (commands_of device) (drives_of device) cdb ≡ Some route
+  pub decodes : DecodesTo (commands_of device) (drives_of device) cdb route
   pub names : named_by route.from route.to ≡ l ∷ more
   pub changer : kind_of device ≡ kind.Changer
 
@@ -140,11 +141,11 @@ has_drives : (device : DeviceView) → 1 ≤ drives_of device → kind_of device
 has_drives (Drive d) h = absurd (omega (arith, h))
 has_drives (Changer e) h = refl
 
-route_named : (device : DeviceView) (cdb : List ℕ) (l : ℕ) (more : List ℕ) (o : Option Route) → route_of (drives_of device) cdb ≡ o →
+route_named : (device : DeviceView) (cdb : List ℕ) (l : ℕ) (more : List ℕ) (o : Option Route) → route_of (commands_of device) (drives_of device) cdb ≡ o →
     named_in o ≡ l ∷ more → HasRoute device cdb l more
 route_named device cdb l more None is h = absurd cc
 route_named device cdb l more (Some r) is h =
-    let s = decodes (drives_of device) cdb r is in
+    let s = decodes (commands_of device) (drives_of device) cdb r is in
     record {
       route = r;
       is = is;
@@ -154,17 +155,16 @@ route_named device cdb l more (Some r) is h =
           (first_within r.from r.to (drives_of device) r.source r.destination l more s.from s.to h);
     }
 
-pub has_route : (device : DeviceView) (cdb : List ℕ) (l : ℕ) (more : List ℕ) → named (drives_of device) cdb ≡ l ∷ more → HasRoute device cdb
+pub has_route : (device : DeviceView) (cdb : List ℕ) (l : ℕ) (more : List ℕ) → named (commands_of device) (drives_of device) cdb ≡ l ∷ more → HasRoute device cdb
     l more
-has_route device cdb l more h = route_named device cdb l more (route_of (drives_of device) cdb) refl h
+has_route device cdb l more h = route_named device cdb l more (route_of (commands_of device) (drives_of device) cdb) refl h
 
 -- a command that names a drive asks for a move
-pub move_asked : (device : DeviceView) (cdb bytes : List ℕ) (l : ℕ) (more : List ℕ) → named (drives_of device) cdb ≡ l ∷ more
-    → act_of (kind_of device) cdb bytes ≡ act.Command class.MoveMedium
+pub move_asked : (device : DeviceView) (cdb bytes : List ℕ) (l : ℕ) (more : List ℕ) → named (commands_of device) (drives_of device) cdb ≡ l ∷ more
+    → act_of (commands_of device) cdb bytes ≡ act.Command class.MoveMedium
 move_asked device cdb bytes l more names =
     let r = has_route device cdb l more names in
-    ap (λ (k : Kind). act_of k cdb bytes) r.changer
-    ∙ ap (λ (d : Result Request CdbFault). act_of_decoded (elim d [
+    ap (λ (d : Result Request CdbFault). act_of_decoded (elim d [
       | Ok request ↦ command_of request bytes
       | Err fault ↦ Err
           (condition_of_fault fault)

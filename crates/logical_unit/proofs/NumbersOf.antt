@@ -8,7 +8,7 @@ use Rattle.tape_medium.specs.declared.volume.Volume.{Volume}
 use Rattle.audit_log.specs.declared.act.Act.{Act}
 use Rattle.audit_log.specs.declared.act.Act.TheVariants.{MediumIn, MediumOut}
 use Rattle.audit_log.specs.declared.record.Record.{Record}
-use Rattle.device_server.specs.View.{kind_of}
+use Rattle.device_server.specs.View.{commands_of}
 use Rattle.judgement.specs.JudgedUnit.{JudgedUnit}
 use Rattle.judgement.specs.declared.reply.Reply.{Reply}
 use Rattle.judgement.specs.Replies.{good, check}
@@ -62,7 +62,7 @@ answered_noted x y n cdb bytes reply (inr ended) =
     let j = judged_at x.unit n cdb bytes in
     let answer = ended.answer.answer in
     recorded_noted x.unit y.unit reply (sym (ap (λ (z : UnitView × Reply). z.1.number) answer))
-    (sym (ap (λ (z : UnitView × Reply). last_number z.0) answer) ∙ entry_last x.unit j.0 (record_of (last_number x.unit + 1) (Some n) (act_of (kind_of x.unit.device) cdb bytes) j.1 j.2.status j.2.sense))
+    (sym (ap (λ (z : UnitView × Reply). last_number z.0) answer) ∙ entry_last x.unit j.0 (record_of (last_number x.unit + 1) (Some n) (act_of (commands_of x.unit.device) cdb bytes) j.1 j.2.status j.2.sense))
 
 -- a command that judgement left open, ended
 abbrev pub recorded_in : UnitView → Nexus → Act → Decision → Reply → UnitView × Reply

@@ -29,7 +29,7 @@ barred false e f = absurd cc
 -- a step that leaves all as it is
 pub record Quiet {A : Type 0} (a : A) (x : A × Outcome) : Type 0 where
   pub same : x.0 ≡ a
-  pub steady : x.1.mode_changed ≡ false
+  pub steady : x.1.told ≡ None
 
 -- a class that the permission table lets through
 abbrev pub Let : ResType → Role → Request → Type 0
@@ -58,6 +58,7 @@ tape_quiet ty ro s m protected t (request.PersistentReserveOut action scope_type
 tape_quiet ty ro s m protected t (request.ReportLuns select l) bytes h = record { same = refl; steady = refl }
 tape_quiet ty ro s m protected t (request.MoveMedium transport source destination invert) bytes h = record { same = refl; steady = refl }
 tape_quiet ty ro s m protected t (request.ReadElementStatus voltag type_code start count curdata dvcid l) bytes h = record { same = refl; steady = refl }
+tape_quiet ty ro s m protected t (request.Host command) bytes h = record { same = refl; steady = refl }
 
 in_volume_quiet : (d : DriveView) (v : Volume) (x : TapeView × Outcome) → d.bay ≡ Some v → Quiet v.tape x → Quiet d (in_volume d v x)
 in_volume_quiet d v x h q = record {
@@ -98,6 +99,7 @@ drive_quiet ty ro s d (request.PersistentReserveOut action scope_type l) bytes h
 drive_quiet ty ro s d (request.ReportLuns select l) bytes h = bay_quiet ty ro s d d.bay (request.ReportLuns select l) bytes refl h
 drive_quiet ty ro s d (request.MoveMedium transport source destination invert) bytes h = bay_quiet ty ro s d d.bay (request.MoveMedium transport source destination invert) bytes refl h
 drive_quiet ty ro s d (request.ReadElementStatus voltag type_code start count curdata dvcid l) bytes h = bay_quiet ty ro s d d.bay (request.ReadElementStatus voltag type_code start count curdata dvcid l) bytes refl h
+drive_quiet ty ro s d (request.Host command) bytes h = bay_quiet ty ro s d d.bay (request.Host command) bytes refl h
 
 -- A CHANGER's elements change by a MOVE MEDIUM alone
 pub changer_quiet : (ty : ResType) (ro : Role) → row_allows Changing ty ro ≡ false → (e : Elements) (r : Request) → Let ty ro r → Quiet e (changer_step e r)
@@ -123,12 +125,13 @@ changer_quiet ty ro closed e (request.PersistentReserveOut action scope_type l) 
 changer_quiet ty ro closed e (request.ReportLuns select l) h = record { same = refl; steady = refl }
 changer_quiet ty ro closed e (request.MoveMedium transport source destination invert) h = barred _ h closed
 changer_quiet ty ro closed e (request.ReadElementStatus voltag type_code start count curdata dvcid l) h = record { same = refl; steady = refl }
+changer_quiet ty ro closed e (request.Host command) h = record { same = refl; steady = refl }
 
 stepped_quiet : (ty : ResType) (ro : Role) → Shut ty ro → (d : DeviceView) (r : Request) (bytes : List ℕ) → Let ty ro r → Quiet d (stepped d r bytes)
 stepped_quiet ty ro s (Drive d) r bytes h = let q = drive_quiet ty ro s d r bytes h in record { same = ap Drive q.same; steady = q.steady }
 stepped_quiet ty ro s (Changer e) r bytes h = let q = changer_quiet ty ro s.changing e r h in record { same = ap Changer q.same; steady = q.steady }
 
--- the device and its mode stay as they were
+-- the device stays as it was, and nothing is told
 pub performed_quiet : (ty : ResType) (ro : Role) → Shut ty ro → (d : DeviceView) (r : Request) (bytes : List ℕ) → Let ty ro r → Quiet d (performed d r bytes)
 performed_quiet ty ro s d r bytes h =
     elim (field_fault d r bytes) as (λ (o : Option Condition). Quiet d (elim o [ Some condition ↦ (d, refused condition) | None ↦ stepped d r bytes ])) [

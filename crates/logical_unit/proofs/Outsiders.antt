@@ -6,7 +6,7 @@ use Rattle.permit_tables.specs.Permission.{Changing, row_allows}
 use Rattle.permit_tables.specs.declared.cell.Cell.{Cell}
 use Rattle.pr_core.specs.State.{res_type, role}
 use Rattle.pr_core.specs.declared.verdict.Verdict.TheVariants.{Allowed, Denied}
-use Rattle.device_server.specs.View.{drives_of}
+use Rattle.device_server.specs.View.{commands_of, drives_of}
 use Rattle.judgement.specs.Judge.{judged_as}
 use Rattle.judgement.specs.declared.reply.Reply.{Reply}
 use Rattle.judgement.specs.declared.command.Command.TheVariants.{Device}
@@ -26,7 +26,7 @@ allowed_class : (b : Bool) (c : Cell) → cond b Allowed (Denied c) ≡ Allowed 
 allowed_class true c h = refl
 allowed_class false c h = cc
 
-pub never_left : (c : UnitView) (n : Nexus) (cdb bytes : List ℕ) (l : ℕ) (more : List ℕ) → named (drives_of c.device) cdb ≡ l ∷ more → row_allows Changing (res_type c.state.reservations) (role c.state.reservations n) ≡ false
+pub never_left : (c : UnitView) (n : Nexus) (cdb bytes : List ℕ) (l : ℕ) (more : List ℕ) → named (commands_of c.device) (drives_of c.device) cdb ≡ l ∷ more → row_allows Changing (res_type c.state.reservations) (role c.state.reservations n) ≡ false
     → is_left (judged_at c n cdb bytes).2.sense ≡ true → ⊥
 never_left c n cdb bytes l more names closed left =
     let route = has_route c.device cdb l more names in
@@ -36,7 +36,7 @@ never_left c n cdb bytes l more names closed left =
     let own = left_is_own u n move bytes (sym (ap (λ x. is_left (judged_as u n x bytes).2.sense) is) ∙ left) in
     barred (row_allows Changing (res_type c.state.reservations) (role c.state.reservations n)) (allowed_class _ _ own.goes_on.allowed) closed
 
-pub alone_one : (c d v e : UnitView) (n : Nexus) (cdb bytes : List ℕ) (r : Reply) (l : ℕ) (more : List ℕ) → named (drives_of c.device) cdb ≡ l ∷ more → row_allows Changing (res_type c.state.reservations) (role c.state.reservations n) ≡ false
+pub alone_one : (c d v e : UnitView) (n : Nexus) (cdb bytes : List ℕ) (r : Reply) (l : ℕ) (more : List ℕ) → named (commands_of c.device) (drives_of c.device) cdb ≡ l ∷ more → row_allows Changing (res_type c.state.reservations) (role c.state.reservations n) ≡ false
     → MovesOne c d n cdb bytes ((v, r), e) → Executes c n cdb bytes (v, r) × (e ≡ d)
 alone_one c d v e n cdb bytes r l more names closed moves =
     elim (one_became c d v e n cdb bytes r l more names moves) [
@@ -47,7 +47,7 @@ alone_one c d v e n cdb bytes r l more names closed moves =
       ]
     ]
 
-pub alone_two : (c v : UnitView) (ds es : TwoDrives) (n : Nexus) (cdb bytes : List ℕ) (r : Reply) (l : ℕ) (more : List ℕ) → named (drives_of c.device) cdb ≡ l ∷ more → row_allows Changing (res_type c.state.reservations) (role c.state.reservations n) ≡ false
+pub alone_two : (c v : UnitView) (ds es : TwoDrives) (n : Nexus) (cdb bytes : List ℕ) (r : Reply) (l : ℕ) (more : List ℕ) → named (commands_of c.device) (drives_of c.device) cdb ≡ l ∷ more → row_allows Changing (res_type c.state.reservations) (role c.state.reservations n) ≡ false
     → MovesTwo c ds n cdb bytes ((v, r), es) → Executes c n cdb bytes (v, r) × (es ≡ ds)
 alone_two c v ds es n cdb bytes r l more names closed moves =
     elim (two_became c v ds es n cdb bytes r l more names moves) [
@@ -59,13 +59,13 @@ alone_two c v ds es n cdb bytes r l more names closed moves =
     ]
 
 -- so it leaves what is in the changer, and the drives whole
-pub one_unchanged : (c d v e : UnitView) (n : Nexus) (cdb bytes : List ℕ) (r : Reply) (l : ℕ) → named (drives_of c.device) cdb ≡ l ∷ [] → MovesOne c d n cdb bytes ((v, r), e) → MayNotChange c.state.reservations n
+pub one_unchanged : (c d v e : UnitView) (n : Nexus) (cdb bytes : List ℕ) (r : Reply) (l : ℕ) → named (commands_of c.device) (drives_of c.device) cdb ≡ l ∷ [] → MovesOne c d n cdb bytes ((v, r), e) → MayNotChange c.state.reservations n
     → SameContents c.device v.device × (e ≡ d)
 one_unchanged c d v e n cdb bytes r l names moves closed =
     let alone = alone_one c d v e n cdb bytes r l [] names closed moves in
     (changes_nothing c v n cdb bytes r closed alone.0, alone.1)
 
-pub two_unchanged : (c v : UnitView) (ds es : TwoDrives) (n : Nexus) (cdb bytes : List ℕ) (r : Reply) (l m : ℕ) → named (drives_of c.device) cdb ≡ l ∷ m ∷ [] → MovesTwo c ds n cdb bytes ((v, r), es) → MayNotChange c.state.reservations n
+pub two_unchanged : (c v : UnitView) (ds es : TwoDrives) (n : Nexus) (cdb bytes : List ℕ) (r : Reply) (l m : ℕ) → named (commands_of c.device) (drives_of c.device) cdb ≡ l ∷ m ∷ [] → MovesTwo c ds n cdb bytes ((v, r), es) → MayNotChange c.state.reservations n
     → SameContents c.device v.device × (es.low ≡ ds.low) × (es.high ≡ ds.high)
 two_unchanged c v ds es n cdb bytes r l m names moves closed =
     let alone = alone_two c v ds es n cdb bytes r l (m ∷ []) names closed moves in

@@ -4,7 +4,7 @@ use Rattle.std.proofs.lemmas.Bool.Decides.{nat_tests}
 use Rattle.scsi_nexus.specs.declared.nexus.Nexus.{Nexus}
 use Rattle.audit_log.specs.declared.act.Act.{Act}
 use Rattle.audit_log.specs.declared.record.Record.{Record}
-use Rattle.device_server.specs.View.{kind_of}
+use Rattle.device_server.specs.View.{commands_of}
 use Rattle.judgement.specs.JudgedUnit.{JudgedUnit}
 use Rattle.judgement.specs.declared.decision.Decision.{Decision}
 use Rattle.judgement.specs.declared.reply.Reply.{Reply}
@@ -31,11 +31,11 @@ recorded_one u v n act p f given r e =
 
 -- a command is BUSY with nothing changed, or it has a record
 pub executed : (u v : UnitView) (n : Nexus) (cdb bytes : List ℕ) (r : Reply) → Executes u n cdb bytes (v, r)
-    → ((v ≡ u) × (r ≡ busy)) ⊎ (Recorded u v (act_of (kind_of u.device) cdb bytes) × (r.number ≡ last_number u + 1))
+    → ((v ≡ u) × (r ≡ busy)) ⊎ (Recorded u v (act_of (commands_of u.device) cdb bytes) × (r.number ≡ last_number u + 1))
 executed u v n cdb bytes r (inl e) = inl (ap (λ (x : UnitView × Reply). x.0) e, ap (λ (x : UnitView × Reply). x.1) e)
 executed u v n cdb bytes r (inr e) =
     let j = judged_at u n cdb bytes in
-    inr (recorded_one u v n (act_of (kind_of u.device) cdb bytes) j.0 j.1 j.2 r e.2, ap (λ (x : UnitView × Reply). x.1.number) e.2)
+    inr (recorded_one u v n (act_of (commands_of u.device) cdb bytes) j.0 j.1 j.2 r e.2, ap (λ (x : UnitView × Reply). x.1.number) e.2)
 
 -- a command without a number is BUSY
 none_is_zero : (lun n : ℕ) → own_number lun n ≡ [] → n ≡ 0

@@ -10,7 +10,7 @@ use Rattle.scsi_sense.specs.declared.condition.Condition.{Condition}
 use Rattle.tape_medium.specs.declared.volume.Volume.{Volume}
 use Rattle.tape_medium.specs.declared.volume.VolumeTag.{VolumeTag}
 use Rattle.device_server.specs.Ends.{IsSameDevice}
-use Rattle.device_server.specs.View.{DeviceView, kind_of, drives_of, marked}
+use Rattle.device_server.specs.View.{DeviceView, kind_of, commands_of, drives_of, marked}
 use Rattle.device_server.specs.declared.fault.BadPlace.{BadPlace}
 use Rattle.device_server.proofs.MarkLemmas.{drives_give, drives_get, changers_give, changers_get, marks_one}
 use Rattle.judgement.specs.History.{accepted_as, after_history}
@@ -32,13 +32,13 @@ use Rattle.logical_unit.proofs.Moved.{Ends, Became, one_became, two_became}
 use Rattle.logical_unit.proofs.NamedDrives.{HasRoute, has_route}
 
 pub same_unit : (u : UnitView) → IsSameUnit u u
-same_unit u = record { device = record { kind = refl; drives = refl }; lun = refl; units = refl; reservations = refl }
+same_unit u = record { device = record { kind = refl; profile = refl; drives = refl }; lun = refl; units = refl; reservations = refl }
 
 unit_is : (u v w : UnitView) → w ≡ v → IsSameUnit u v → IsSameUnit u w
 unit_is u v w is same = subst (λ (x : UnitView). IsSameUnit u x) (sym is) same
 
 then_same : (a b c : DeviceView) → IsSameDevice a b → IsSameDevice b c → IsSameDevice a c
-then_same a b c p q = record { kind = q.kind ∙ p.kind; drives = q.drives ∙ p.drives }
+then_same a b c p q = record { kind = q.kind ∙ p.kind; profile = q.profile ∙ p.profile; drives = q.drives ∙ p.drives }
 
 -- THE DRIVES
 pub out_same : (d e : UnitView) (v : Volume) → taken_out d ≡ Ok (v, e) → IsSameUnit d e
@@ -54,7 +54,7 @@ in_same d e v h =
 -- THE CHANGER
 noted_same : (device : DeviceView) (address : ℕ) (tag : Option VolumeTag) (o : Result DeviceView BadPlace) → marked device address tag ≡ o → IsSameDevice device (elim o [ Ok after ↦ after | Err fault ↦ device ])
 noted_same device address tag (Ok after) h = (marks_one device after address tag h).device
-noted_same device address tag (Err fault) h = record { kind = refl; drives = refl }
+noted_same device address tag (Err fault) h = record { kind = refl; profile = refl; drives = refl }
 
 pub noting_same : (device : DeviceView) (address : ℕ) (tag : Option VolumeTag) → IsSameDevice device (noting device address tag)
 noting_same device address tag = noted_same device address tag (marked device address tag) refl
@@ -134,9 +134,9 @@ carried_two_same c ds None device es h = absurd cc
 carried_two_same c ds (Some r) device es h = by_way_same c ds r (is_upward r.from r.to) device es h
 
 -- THE UNITS. A MOVE MEDIUM accepts nothing
-pub decodes_move : (device : DeviceView) (cdb bytes : List ℕ) (l : ℕ) (more : List ℕ) (route : HasRoute device cdb l more) → decoded_command (kind_of device) cdb bytes ≡ Ok (Device (MoveMedium route.decodes.transport route.route.source route.route.destination route.decodes.invert))
+pub decodes_move : (device : DeviceView) (cdb bytes : List ℕ) (l : ℕ) (more : List ℕ) (route : HasRoute device cdb l more) → decoded_command (commands_of device) cdb bytes ≡ Ok (Device (MoveMedium route.decodes.transport route.route.source route.route.destination route.decodes.invert))
 decodes_move device cdb bytes l more route =
-    ap (λ k. decoded_command k cdb bytes) route.changer ∙ ap (λ (o : Result Request CdbFault). elim o [ Ok q ↦ command_of q bytes | Err fault ↦ Err (condition_of_fault fault) ]) route.decodes.reads
+    ap (λ (o : Result Request CdbFault). elim o [ Ok q ↦ command_of q bytes | Err fault ↦ Err (condition_of_fault fault) ]) route.decodes.reads
 
 alone_same : (c v : UnitView) (n : Nexus) (cdb bytes : List ℕ) (r : Reply) (l : ℕ) (more : List ℕ) → HasRoute c.device cdb l more → Executes c n cdb bytes (v, r) → IsSameUnit c v
 alone_same c v n cdb bytes r l more route e =
@@ -151,14 +151,14 @@ alone_same c v n cdb bytes r l more route e =
 ends_same : (c v : UnitView) (n : Nexus) (cdb bytes : List ℕ) (r : Reply) (device : DeviceView) (reply : Reply) → Ends c v n cdb bytes r device reply → IsSameDevice c.device device → IsSameUnit c v
 ends_same c v n cdb bytes r device reply ends same = unit_is c _ v (ap (λ (x : UnitView × Reply). x.0) ends.unit) (record { device = same; lun = refl; units = refl; reservations = refl })
 
-pub one_same : (c d v e : UnitView) (n : Nexus) (cdb bytes : List ℕ) (r : Reply) (l : ℕ) (more : List ℕ) → named (drives_of c.device) cdb ≡ l ∷ more → MovesOne c d n cdb bytes ((v, r), e) → IsSameUnit c v × IsSameUnit d e
+pub one_same : (c d v e : UnitView) (n : Nexus) (cdb bytes : List ℕ) (r : Reply) (l : ℕ) (more : List ℕ) → named (commands_of c.device) (drives_of c.device) cdb ≡ l ∷ more → MovesOne c d n cdb bytes ((v, r), e) → IsSameUnit c v × IsSameUnit d e
 one_same c d v e n cdb bytes r l more names moves =
     let route = has_route c.device cdb l more names in
     let by : Became c v n cdb bytes r d e (carried_one c.device d (route_at c cdb)) → IsSameUnit c v × IsSameUnit d e =
     λ b. elim b [
       | inl alone ↦ (alone_same c v n cdb bytes r l more route alone.0, unit_is d d e alone.1 (same_unit d))
       | inr left ↦ elim left [
-        | inl halted ↦ (ends_same c v n cdb bytes r c.device (check halted.condition) halted.ends (record { kind = refl; drives = refl }), unit_is d d e halted.drives_stay (same_unit d))
+        | inl halted ↦ (ends_same c v n cdb bytes r c.device (check halted.condition) halted.ends (record { kind = refl; profile = refl; drives = refl }), unit_is d d e halted.drives_stay (same_unit d))
         | inr moved ↦
             let s = carried_one_same c.device d (route_at c cdb) moved.device e route.changer moved.is in
             (ends_same c v n cdb bytes r moved.device (good []) moved.ends s.changer, s.drive)
@@ -166,7 +166,7 @@ one_same c d v e n cdb bytes r l more names moves =
     ] in
     by (one_became c d v e n cdb bytes r l more names moves)
 
-pub two_same : (c v : UnitView) (ds es : TwoDrives) (n : Nexus) (cdb bytes : List ℕ) (r : Reply) (l : ℕ) (more : List ℕ) → named (drives_of c.device) cdb ≡ l ∷ more → MovesTwo c ds n cdb bytes ((v, r), es)
+pub two_same : (c v : UnitView) (ds es : TwoDrives) (n : Nexus) (cdb bytes : List ℕ) (r : Reply) (l : ℕ) (more : List ℕ) → named (commands_of c.device) (drives_of c.device) cdb ≡ l ∷ more → MovesTwo c ds n cdb bytes ((v, r), es)
     → IsSameUnit c v × IsSameUnit ds.low es.low × IsSameUnit ds.high es.high
 two_same c v ds es n cdb bytes r l more names moves =
     let route = has_route c.device cdb l more names in
@@ -175,7 +175,7 @@ two_same c v ds es n cdb bytes r l more names moves =
       | inl alone ↦ (alone_same c v n cdb bytes r l more route alone.0, unit_is ds.low ds.low es.low (ap (λ (x : TwoDrives). x.low) alone.1) (same_unit ds.low), unit_is ds.high ds.high es.high (ap (λ (x : TwoDrives). x.high) alone.1) (same_unit ds.high))
       | inr left ↦ elim left [
         | inl halted ↦ (
-          ends_same c v n cdb bytes r c.device (check halted.condition) halted.ends (record { kind = refl; drives = refl }),
+          ends_same c v n cdb bytes r c.device (check halted.condition) halted.ends (record { kind = refl; profile = refl; drives = refl }),
           unit_is ds.low ds.low es.low (ap (λ (x : TwoDrives). x.low) halted.drives_stay) (same_unit ds.low),
           unit_is ds.high ds.high es.high (ap (λ (x : TwoDrives). x.high) halted.drives_stay) (same_unit ds.high),
         )

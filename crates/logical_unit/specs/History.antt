@@ -3,7 +3,7 @@
 use Rattle.std.specs.Prelude.{◌≡◌, ◌≢◌, ℕ, List}
 use Rattle.scsi_nexus.specs.declared.nexus.Nexus.{Nexus}
 use Rattle.scsi_sense.specs.declared.status.Status.TheVariants.{Busy}
-use Rattle.device_server.specs.View.{kind_of}
+use Rattle.device_server.specs.View.{commands_of}
 use Rattle.judgement.specs.declared.reply.Reply.{Reply}
 use Rattle.judgement.specs.History.{accepted_by, after_history}
 use Rattle.logical_unit.specs.Step.{answered, Executes}
@@ -12,7 +12,7 @@ use Rattle.logical_unit.specs.UnitView.{UnitView}
 -- one command changes the registrations, the reservation and the generation just as its part of the history says
 abbrev pub KeepsHistory : Type 0
 KeepsHistory = (u v : UnitView) (n : Nexus) (cdb bytes : List ℕ) (r : Reply) → Executes u n cdb bytes (v, r)
-    → v.state.reservations ≡ after_history u.state.reservations (accepted_by (kind_of u.device) n cdb bytes r.status)
+    → v.state.reservations ≡ after_history u.state.reservations (accepted_by (commands_of u.device) n cdb bytes r.status)
 
 -- no command that is judged is answered BUSY
 abbrev pub AnswersNoBusy : Type 0

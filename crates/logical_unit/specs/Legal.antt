@@ -2,7 +2,7 @@
 use Rattle.std.specs.Prelude.{◌≡◌, ◌↔◌, Bool, true, false, List, [], ◌∷◌, Option, None, Some, if◌then◌else◌, ◌⊎◌}
 use Rattle.std.specs.List.{All, flat_map}
 use Rattle.scsi_cdb.specs.declared.classes.Class.{Class}
-use Rattle.scsi_cdb.specs.declared.classes.Class.TheVariants.{TestUnitReady, Rewind, ReadBlockLimits, InitializeElementStatus, Erase, ReadPosition, Inquiry, ReportLuns, RequestSense, PersistentReserveIn, PreventRemoval, AllowRemoval, ModeSense, ModeSelect, Register, Reserve, Release, Clear, Preempt, PreemptAndAbort, RegisterAndIgnoreExistingKey, RegisterAndMove}
+use Rattle.scsi_cdb.specs.declared.classes.Class.TheVariants.{TestUnitReady, Rewind, ReadBlockLimits, InitializeElementStatus, Erase, ReadPosition, Inquiry, ReportLuns, RequestSense, PersistentReserveIn, PreventRemoval, AllowRemoval, ModeSense, ModeSelect, Register, Reserve, Release, Clear, Preempt, PreemptAndAbort, RegisterAndIgnoreExistingKey, RegisterAndMove, SendDiagnostic, LogSelect, LogSense, ModeSelect10, ModeSense10, ReportSupportedOperationCodes, ReportSupportedTaskManagementFunctions}
 use Rattle.scsi_cdb.specs.Classes.{class_of_action}
 use Rattle.scsi_nexus.specs.declared.nexus.Nexus.{Nexus}
 use Rattle.scsi_sense.specs.declared.condition.Condition.{Condition}
@@ -23,6 +23,7 @@ use Rattle.audit_log.specs.declared.record.Record.{Record}
 use Rattle.audit_log.specs.declared.stage.Stage.{Stage}
 use Rattle.audit_log.specs.declared.stage.Stage.TheVariants.{Decoding, ResetAttention, ReservationCheck, OtherAttention, Fields, Device}
 use Rattle.audit_log.specs.TrailView.{IsNumbered}
+use Rattle.device_server.specs.Ends.{told_by}
 use Rattle.judgement.specs.declared.decision.Decision.{Decision}
 use Rattle.judgement.specs.declared.reply.Reply.{Reply}
 use Rattle.judgement.specs.Conditions.{condition_of_attention, condition_of_refusal}
@@ -31,7 +32,7 @@ use Rattle.judgement.specs.Decisions.{at_stage, let_in, in_conflict}
 use Rattle.judgement.specs.Replies.{good, check, conflict, IsWhole}
 use Rattle.judgement.specs.UnitStateView.{UnitStateView}
 use Rattle.logical_unit.specs.UnitView.{Base}
-use Rattle.judgement.specs.UnitState.{has_room, after_contact, reported, accepted, prevented, allowed, is_prevented, after_mode, with_medium}
+use Rattle.judgement.specs.UnitState.{has_room, after_contact, reported, accepted, prevented, allowed, is_prevented, after_telling, with_medium}
 use Rattle.judgement.specs.Readings.{verdict_by, pending_of}
 use Rattle.judgement.specs.Judge.{waiting}
 use Rattle.judgement.specs.UnitState.{kept_after_loss, kept_after_reset}
@@ -41,39 +42,39 @@ abbrev pub reported_if : UnitStateView → Nexus → Option Kind → UnitStateVi
 reported_if k n None = k
 reported_if k n (Some kind) = reported k n kind
 
--- REQUEST SENSE reports as data the attention that waits; PREVENT ALLOW MEDIUM REMOVAL prevents or allows; MODE SELECT may have changed
--- the mode parameters, which is told to the others
-abbrev pub left_by_class : UnitStateView → Nexus → Class → (mode_changed : Bool) → UnitStateView
-left_by_class k n RequestSense mode_changed = reported_if k n (pending_of k.slots n)
-left_by_class k n PreventRemoval mode_changed = prevented k n
-left_by_class k n AllowRemoval mode_changed = allowed k n
-left_by_class k n class mode_changed = after_mode k n mode_changed
+-- REQUEST SENSE reports as data the attention that waits; PREVENT ALLOW MEDIUM REMOVAL prevents or allows; what another command told is
+-- raised for the others
+abbrev pub left_by_class : UnitStateView → Nexus → Class → (told : Option Kind) → UnitStateView
+left_by_class k n RequestSense told = reported_if k n (pending_of k.slots n)
+left_by_class k n PreventRemoval told = prevented k n
+left_by_class k n AllowRemoval told = allowed k n
+left_by_class k n class told = after_telling k n told
 
 -- what a command leaves that came to stage 6: PERSISTENT RESERVE OUT that is GOOD was accepted
-abbrev pub left_by : UnitStateView → Nexus → Option OutParams → Class → Status → (mode_changed : Bool) → UnitStateView
-left_by k n (Some params) class status mode_changed = if is_good status then accepted k n params else k
-left_by k n None class status mode_changed = left_by_class k n class mode_changed
+abbrev pub left_by : UnitStateView → Nexus → Option OutParams → Class → Status → (told : Option Kind) → UnitStateView
+left_by k n (Some params) class status told = if is_good status then accepted k n params else k
+left_by k n None class status told = left_by_class k n class told
 
 -- what a command leaves of what is kept after its contact, by the stage that answered it
-abbrev pub left_at : Stage → UnitStateView → Nexus → Option OutParams → Class → Status → (mode_changed : Bool) → UnitStateView
-left_at ResetAttention k n list class status mode_changed = reported_if k n (waiting class (first_reset_of k.slots n))
-left_at OtherAttention k n list class status mode_changed = reported_if k n (waiting class (first_other_of k.slots n))
-left_at Device k n list class status mode_changed = left_by k n list class status mode_changed
-left_at stage k n list class status mode_changed = k
+abbrev pub left_at : Stage → UnitStateView → Nexus → Option OutParams → Class → Status → (told : Option Kind) → UnitStateView
+left_at ResetAttention k n list class status told = reported_if k n (waiting class (first_reset_of k.slots n))
+left_at OtherAttention k n list class status told = reported_if k n (waiting class (first_other_of k.slots n))
+left_at Device k n list class status told = left_by k n list class status told
+left_at stage k n list class status told = k
 
-abbrev pub left_as : UnitStateView → Option Nexus → Act → Stage → Status → (mode_changed : Bool) → UnitStateView
-left_as k (Some n) (Command class) stage status mode_changed = left_at stage (after_contact k n) n None class status mode_changed
-left_as k (Some n) (ReserveOut params) stage status mode_changed =
-    left_at stage (after_contact k n) n (Some params) (class_of_action params.act) status mode_changed
-left_as k (Some n) Invalid stage status mode_changed = after_contact k n
-left_as k (Some n) Loss stage status mode_changed = kept_after_loss k n
-left_as k None Reset stage status mode_changed = kept_after_reset k
-left_as k None MediumIn stage status mode_changed = with_medium k
-left_as k nexus act stage status mode_changed = k
+abbrev pub left_as : UnitStateView → Option Nexus → Act → Stage → Status → (told : Option Kind) → UnitStateView
+left_as k (Some n) (Command class) stage status told = left_at stage (after_contact k n) n None class status told
+left_as k (Some n) (ReserveOut params) stage status told =
+    left_at stage (after_contact k n) n (Some params) (class_of_action params.act) status told
+left_as k (Some n) Invalid stage status told = after_contact k n
+left_as k (Some n) Loss stage status told = kept_after_loss k n
+left_as k None Reset stage status told = kept_after_reset k
+left_as k None MediumIn stage status told = with_medium k
+left_as k nexus act stage status told = k
 
 -- what is kept after a record, and after records one after another
 abbrev pub kept_by : UnitStateView → Record → UnitStateView
-kept_by k e = left_as k e.nexus e.act e.stage e.status e.mode_changed
+kept_by k e = left_as k e.nexus e.act e.stage e.status e.told
 
 abbrev pub kept_after : UnitStateView → List Record → UnitStateView
 kept_after k [] = k
@@ -84,13 +85,14 @@ pub record Says (e : Record) (decision : Decision) (reply : Reply) : Type 0 wher
   pub stage : e.stage ≡ decision.stage
   pub cell : e.cell ≡ decision.cell
   pub rule : e.rule ≡ decision.rule
-  pub mode_changed : e.mode_changed ≡ decision.mode_changed
+  pub told : e.told ≡ decision.told
   pub status : e.status ≡ reply.status
   pub sense : e.sense ≡ reply.sense
 
--- only a MODE SELECT that ended GOOD changed the mode parameters
-pub record ChangedTheMode (e : Record) (asked : Class) : Type 0 where
-  pub class : asked ≡ ModeSelect
+-- only a command that ended GOOD told the others something, and only what its class tells: a MODE SELECT that it changed the mode
+-- parameters
+pub record ToldOthers (e : Record) (asked : Class) (kind : Kind) : Type 0 where
+  pub class : told_by asked ≡ Some kind
   pub stage : e.stage ≡ Device
   pub status : e.status ≡ Good
 
@@ -130,6 +132,13 @@ is_field_fault Erase condition = false
 is_field_fault ReadPosition condition = false
 is_field_fault PersistentReserveIn condition = false
 is_field_fault AllowRemoval condition = false
+is_field_fault SendDiagnostic condition = false
+is_field_fault LogSelect condition = false
+is_field_fault LogSense condition = false
+is_field_fault ModeSelect10 condition = false
+is_field_fault ModeSense10 condition = false
+is_field_fault ReportSupportedOperationCodes condition = false
+is_field_fault ReportSupportedTaskManagementFunctions condition = false
 is_field_fault ModeSense condition = is_of_mode_sense condition
 is_field_fault ModeSelect condition = is_of_mode_select condition
 is_field_fault class condition = is_of_cdb condition
@@ -150,7 +159,7 @@ pub record SaysItsOwn (e : Record) (at : Cell) : Type 0 where
   pub whole : IsWhole e.status e.sense
   pub fields : e.stage ≡ Fields → RefusesFields e at.class
   pub unit : is_of_every_unit at.class ≡ true → e.stage ≡ Device → e.status ≡ Good
-  pub mode : e.mode_changed ≡ true → ChangedTheMode e at.class
+  pub told : (kind : Kind) → e.told ≡ Some kind → ToldOthers e at.class kind
 
 -- stages 5 and 6
 abbrev pub IsCarriedOut : UnitStateView → Nexus → Option OutParams → Class → Record → Type 0

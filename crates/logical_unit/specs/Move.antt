@@ -12,7 +12,7 @@ use Rattle.scsi_sense.specs.declared.status.Status.TheVariants as status
 use Rattle.tape_medium.specs.declared.volume.Volume.{Volume}
 use Rattle.tape_medium.specs.declared.volume.VolumeTag.{VolumeTag}
 use Rattle.device_server.specs.Ends.{IsSameDevice}
-use Rattle.device_server.specs.View.{DeviceView, kind_of, drives_of, held_in, taken, put, marked}
+use Rattle.device_server.specs.View.{DeviceView, commands_of, drives_of, held_in, taken, put, marked}
 use Rattle.judgement.specs.Judge.{judged}
 use Rattle.judgement.specs.JudgedUnit.{JudgedUnit}
 use Rattle.judgement.specs.declared.decision.Decision.{Decision}
@@ -125,17 +125,17 @@ carried_two changer ds (Some r) = if is_upward r.from r.to then upward (passed c
 
 -- what the changer's record and its answer say, by what is carried; a device is the changer's then
 abbrev pub ended : {A : Type 0} → UnitView → Nexus → (cdb bytes : List ℕ) → A → JudgedUnit × Decision × Reply → Result (DeviceView × A) Condition → (UnitView × Reply) × A
-ended c n cdb bytes drives answer (Ok it) = (recorded c n (act_of (kind_of c.device) cdb bytes) (record answer.0 { device = it.0 }, answer.1, good []), it.1)
-ended c n cdb bytes drives answer (Err condition) = (recorded c n (act_of (kind_of c.device) cdb bytes) (answer.0, answer.1, check condition), drives)
+ended c n cdb bytes drives answer (Ok it) = (recorded c n (act_of (commands_of c.device) cdb bytes) (record answer.0 { device = it.0 }, answer.1, good []), it.1)
+ended c n cdb bytes drives answer (Err condition) = (recorded c n (act_of (commands_of c.device) cdb bytes) (answer.0, answer.1, check condition), drives)
 
 -- judged at the changer, and left to the drives or ended there
 abbrev pub concluded : {A : Type 0} → UnitView → Nexus → (cdb bytes : List ℕ) → A → JudgedUnit × Decision × Reply → Result (DeviceView × A) Condition → (UnitView × Reply) × A
 concluded c n cdb bytes drives answer carried =
     if is_left answer.2.sense then ended c n cdb bytes drives answer carried
-    else (recorded c n (act_of (kind_of c.device) cdb bytes) answer, drives)
+    else (recorded c n (act_of (commands_of c.device) cdb bytes) answer, drives)
 
 abbrev pub route_at : UnitView → (cdb : List ℕ) → Option Route
-route_at c cdb = route_of (drives_of c.device) cdb
+route_at c cdb = route_of (commands_of c.device) (drives_of c.device) cdb
 
 abbrev pub judged_at : UnitView → Nexus → (cdb bytes : List ℕ) → JudgedUnit × Decision × Reply
 judged_at c n cdb bytes = judged (contacted_present c n) n cdb bytes
@@ -185,7 +185,7 @@ TwoAreBusyOnlyFor c low high n cdb bytes reply = reply.status ≡ status.Busy
 abbrev pub numbers_of : (before after : UnitView) → List (ℕ × ℕ)
 numbers_of before after = if last_number after == last_number before then [] else (before.state.lun, last_number after) ∷ []
 
--- a unit that stays the same one: its device of the same kind and size, its number, its target's units, its registrations and reservation
+-- a unit that stays the same one: its device of the same kind, profile and size, its number, its target's units, its registrations and reservation
 pub record IsSameUnit (u v : UnitView) : Type 0 where
   pub device : IsSameDevice u.device v.device
   pub lun : v.state.lun ≡ u.state.lun
@@ -194,9 +194,9 @@ pub record IsSameUnit (u v : UnitView) : Type 0 where
 
 -- a move leaves each unit the same one
 abbrev pub OneStays : Type 0
-OneStays = (c d v e : UnitView) (n : Nexus) (cdb bytes : List ℕ) (r : Reply) (drive : ℕ) → named (drives_of c.device) cdb ≡ drive ∷ []
+OneStays = (c d v e : UnitView) (n : Nexus) (cdb bytes : List ℕ) (r : Reply) (drive : ℕ) → named (commands_of c.device) (drives_of c.device) cdb ≡ drive ∷ []
     → MovesOne c d n cdb bytes ((v, r), e) → IsSameUnit c v × IsSameUnit d e
 
 abbrev pub TwoStay : Type 0
-TwoStay = (c v : UnitView) (ds es : TwoDrives) (n : Nexus) (cdb bytes : List ℕ) (r : Reply) (low high : ℕ) → named (drives_of c.device) cdb ≡ low ∷ high ∷ []
+TwoStay = (c v : UnitView) (ds es : TwoDrives) (n : Nexus) (cdb bytes : List ℕ) (r : Reply) (low high : ℕ) → named (commands_of c.device) (drives_of c.device) cdb ≡ low ∷ high ∷ []
     → MovesTwo c ds n cdb bytes ((v, r), es) → IsSameUnit c v × IsSameUnit ds.low es.low × IsSameUnit ds.high es.high

@@ -1,7 +1,7 @@
 -- How a MOVE MEDIUM begins: it is judged at the changer, which answers it, or leaves it to the drives with nothing changed yet.
 use Rattle.std.specs.Prelude.{◌≡◌, ℕ, ◌<◌, Bool, true, false, List, [], Option, Some, None, IsOk, Result, Ok, Err, ◌⊎◌}
 use Rattle.scsi_cdb.specs.Commands.{decoded}
-use Rattle.scsi_cdb.specs.declared.kind.Kind.TheVariants.{Changer}
+use Rattle.scsi_cdb.specs.declared.profile.CommandSet.{CommandSet}
 use Rattle.scsi_cdb.specs.declared.request.Request.TheVariants.{MoveMedium}
 use Rattle.scsi_nexus.specs.declared.nexus.Nexus.{Nexus}
 use Rattle.scsi_sense.specs.declared.condition.Condition.{Condition}
@@ -9,7 +9,7 @@ use Rattle.scsi_sense.specs.declared.sense.Sense.{Sense}
 use Rattle.scsi_sense.specs.declared.status.Status.{Status}
 use Rattle.tape_medium.specs.declared.volume.Volume.{Volume}
 use Rattle.audit_log.specs.declared.act.Act.{Act}
-use Rattle.device_server.specs.View.{DeviceView, kind_of, taken, put}
+use Rattle.device_server.specs.View.{DeviceView, commands_of, taken, put}
 use Rattle.judgement.specs.declared.decision.Decision.{Decision}
 use Rattle.judgement.specs.declared.reply.Reply.{Reply}
 use Rattle.judgement.specs.Replies.{busy, good, check, IsWhole}
@@ -27,11 +27,11 @@ use Rattle.logical_unit.specs.Route.{drive_at}
 use Rattle.logical_unit.specs.Step.{answered, record_of, recorded, HasNumber, IsBusyOnlyFor}
 use Rattle.logical_unit.specs.UnitView.{UnitView, UnitWithRoom, RecordedUnitView}
 
--- a CDB decodes to MOVE MEDIUM by this route
-pub record DecodesTo (drives : ℕ) (cdb : List ℕ) (r : Route) : Type 0 where
+-- a CDB decodes to MOVE MEDIUM by this route, at a changer with these commands and so many drives
+pub record DecodesTo (commands : CommandSet) (drives : ℕ) (cdb : List ℕ) (r : Route) : Type 0 where
   pub transport : ℕ
   pub invert : Bool
-  pub reads : decoded Changer cdb ≡ Ok (MoveMedium transport r.source r.destination invert)
+  pub reads : decoded commands cdb ≡ Ok (MoveMedium transport r.source r.destination invert)
   pub from : r.from ≡ drive_at drives r.source
   pub to : r.to ≡ drive_at drives r.destination
 
@@ -53,7 +53,7 @@ pub record IsLeft (u : UnitView) (n : Nexus) (cdb bytes : List ℕ) (r : Route) 
   pub left : is_left (judged_at u n cdb bytes).2.sense ≡ true
   pub present : (judged_at u n cdb bytes).0 ≡ record { device = u.device; state = u.state }
   pub found : (judged_at u n cdb bytes).1 ≡ decision
-  pub asked : act ≡ act_of (kind_of u.device) cdb bytes
+  pub asked : act ≡ act_of (commands_of u.device) cdb bytes
   pub awaits : AwaitsEnd u.state n act decision
   pub ways : HasWays u.device r
 

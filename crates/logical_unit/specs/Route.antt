@@ -2,7 +2,7 @@
 -- (profile).
 use Rattle.std.specs.Prelude.{ℕ, ◌-◌, ◌==◌, nat_lt, Bool, true, List, [], ◌∷◌, Option, Some, None, Ok, Err, if◌then◌else◌}
 use Rattle.scsi_cdb.specs.Commands.{decoded}
-use Rattle.scsi_cdb.specs.declared.kind.Kind.TheVariants.{Changer}
+use Rattle.scsi_cdb.specs.declared.profile.CommandSet.{CommandSet}
 use Rattle.scsi_cdb.specs.declared.request.Request.{Request}
 use Rattle.scsi_cdb.specs.declared.request.Request.TheVariants.{MoveMedium}
 use Rattle.tape_medium.specs.Elements.{first_data_transfer, is_among}
@@ -17,9 +17,9 @@ route_in drives (MoveMedium transport source destination invert) =
     Some (record { source = source; destination = destination; from = drive_at drives source; to = drive_at drives destination })
 route_in drives request = None
 
--- the route that a CDB decodes to; other commands have none
-abbrev pub route_of : (drives : ℕ) → (cdb : List ℕ) → Option Route
-route_of drives cdb = elim (decoded Changer cdb) [ Ok request ↦ route_in drives request | Err fault ↦ None ]
+-- the route that a CDB decodes to at a changer with these commands and so many drives; other commands have none
+abbrev pub route_of : CommandSet → (drives : ℕ) → (cdb : List ℕ) → Option Route
+route_of commands drives cdb = elim (decoded commands cdb) [ Ok request ↦ route_in drives request | Err fault ↦ None ]
 
 -- whether a volume goes from a drive to one of a higher number
 abbrev pub is_upward : Option ℕ → Option ℕ → Bool
@@ -41,5 +41,5 @@ named_in None = []
 named_in (Some r) = named_by r.from r.to
 
 -- the drives that a CDB names, rising, each once
-abbrev pub named : (drives : ℕ) → (cdb : List ℕ) → List ℕ
-named drives cdb = named_in (route_of drives cdb)
+abbrev pub named : CommandSet → (drives : ℕ) → (cdb : List ℕ) → List ℕ
+named commands drives cdb = named_in (route_of commands drives cdb)

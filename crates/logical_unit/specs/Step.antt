@@ -9,7 +9,7 @@ use Rattle.audit_log.specs.declared.act.Act.{Act}
 use Rattle.audit_log.specs.declared.act.Act.TheVariants.{Loss, Reset}
 use Rattle.audit_log.specs.declared.record.Record.{Record}
 use Rattle.audit_log.specs.declared.stage.Stage.TheVariants.{Device}
-use Rattle.device_server.specs.View.{DeviceView, kind_of, reset_of}
+use Rattle.device_server.specs.View.{DeviceView, commands_of, reset_of}
 use Rattle.judgement.specs.declared.decision.Decision.{Decision}
 use Rattle.judgement.specs.declared.reply.Reply.{Reply}
 use Rattle.judgement.specs.Commands.{decoded_command, act_of}
@@ -40,7 +40,7 @@ record_of number nexus act decision status sense = record {
   rule = decision.rule;
   status = status;
   sense = sense;
-  mode_changed = decision.mode_changed;
+  told = decision.told;
 }
 
 -- a unit after an event: its present, and one record more
@@ -60,7 +60,7 @@ recorded u n act answer = (
 
 -- what isn't answered BUSY is a contact, and then judged, and recorded
 abbrev pub answered : UnitView → Nexus → (cdb bytes : List ℕ) → UnitView × Reply
-answered u n cdb bytes = recorded u n (act_of (kind_of u.device) cdb bytes) (judged (contacted_present u n) n cdb bytes)
+answered u n cdb bytes = recorded u n (act_of (commands_of u.device) cdb bytes) (judged (contacted_present u n) n cdb bytes)
 
 -- whether there is a number for one record more
 abbrev pub HasNumber : UnitView → Type 0
@@ -78,7 +78,7 @@ LacksRecord x = (x.room ≡ 0) ⊎ (last_number x.unit + 1 ≡ 2 ^ 64)
 -- a command is BUSY only where it may take memory beside the room for its record, or there is no slot for the sender, no room or no number
 abbrev pub IsBusyOnlyFor : UnitWithRoom → Nexus → (cdb bytes : List ℕ) → Reply → Type 0
 IsBusyOnlyFor x n cdb bytes reply = reply.status ≡ Busy
-    → (takes_memory (contacted_present x.unit n) n (decoded_command (kind_of x.unit.device) cdb bytes) ≡ true)
+    → (takes_memory (contacted_present x.unit n) n (decoded_command (commands_of x.unit.device) cdb bytes) ≡ true)
     ⊎ ((has_room x.unit.state n ≡ false) ⊎ LacksRecord x)
 
 -- an event that isn't a command is BUSY only where there is no room or no number for its record

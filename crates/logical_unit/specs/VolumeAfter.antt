@@ -2,7 +2,7 @@
 use Rattle.std.specs.Prelude.{ℕ, List, Option, None, Some}
 use Rattle.scsi_cdb.specs.declared.kind.Kind.TheVariants.{Drive, Changer}
 use Rattle.tape_medium.specs.declared.volume.VolumeTag.{VolumeTag}
-use Rattle.device_server.specs.View.{DeviceView, kind_of, drives_of, held_in}
+use Rattle.device_server.specs.View.{DeviceView, kind_of, commands_of, drives_of, held_in}
 use Rattle.logical_unit.specs.declared.route.Route.{Route}
 use Rattle.logical_unit.specs.Route.{route_of}
 
@@ -15,5 +15,5 @@ at_end device (Some route) = held_in device route.destination
 abbrev pub volume_after : DeviceView → (cdb : List ℕ) → Option VolumeTag
 volume_after device cdb = elim (kind_of device) [
   | Drive ↦ held_in device 0
-  | Changer ↦ at_end device (route_of (drives_of device) cdb)
+  | Changer ↦ at_end device (route_of (commands_of device) (drives_of device) cdb)
 ]

@@ -1,5 +1,5 @@
 ghost use Rattle.std.specs.Prelude.{◌≡◌, true, [], ◌∷◌, ◌++◌, Some, None};
-ghost use Rattle.device_server.specs.View.{kind_of, drives_of};
+ghost use Rattle.device_server.specs.View.{commands_of, drives_of};
 ghost use Rattle.judgement.specs.Replies.{busy};
 ghost use Rattle.judgement.specs.Commands.{act_of_decoded};
 ghost use Rattle.judgement.specs.Received.{IsFor, command_in};
@@ -54,14 +54,16 @@ fn volume_after<D: DeviceServer>(
 }
 
 /// Whether the reply to a command that was sent to a unit needn't wait for the medium.
+#[tactic(auto, using(crate::proofs::AtOnce::at_once))]
 fn is_at_once<D: DeviceServer>(unit: &LogicalUnit<D>, received: &ReceivedCommand<'_>) -> bool
     requires { IsFor unit.now.unit.device received.now }
     ensures { result ≡ true → asks_at_once (event.Command received.now.cdb received.now.bytes) ≡ true }
 {
     match unit.kind() {
-        Kind::Drive => received
-            .request()
-            .is_ok_and(|request| is_immediate(&request)),
+        Kind::Drive => match received.request() {
+            Ok(request) => is_immediate(&request),
+            Err(_) => false,
+        },
         Kind::Changer => false,
     }
 }
@@ -135,7 +137,7 @@ pub fn carry_out_move_one<'a, D: DeviceServer>(
     received: &ReceivedCommand<'a>,
 ) -> Done<'a>
     requires kind { IsFor changer.old.unit.device received.now }
-    requires named { named (drives_of changer.old.unit.device) received.now.cdb ≡ drive.old.unit.state.lun ∷ [] }
+    requires named { named (commands_of changer.old.unit.device) (drives_of changer.old.unit.device) received.now.cdb ≡ drive.old.unit.state.lun ∷ [] }
     ensures answer { IsAnswer result (Some received.now.nexus) changer.old.unit.state.lun (event.Command received.now.cdb received.now.bytes) }
     ensures step { MovesOne changer.old.unit drive.old.unit received.now.nexus received.now.cdb received.now.bytes ((changer.new.unit, result.reply), drive.new.unit) }
     ensures numbers { result.numbers ≡ numbers_of changer.old.unit changer.new.unit ++ numbers_of drive.old.unit drive.new.unit }
@@ -167,7 +169,7 @@ pub fn carry_out_move_two<'a, D: DeviceServer>(
     received: &ReceivedCommand<'a>,
 ) -> Done<'a>
     requires kind { IsFor changer.old.unit.device received.now }
-    requires named { named (drives_of changer.old.unit.device) received.now.cdb ≡ low.old.unit.state.lun ∷ high.old.unit.state.lun ∷ [] }
+    requires named { named (commands_of changer.old.unit.device) (drives_of changer.old.unit.device) received.now.cdb ≡ low.old.unit.state.lun ∷ high.old.unit.state.lun ∷ [] }
     ensures answer { IsAnswer result (Some received.now.nexus) changer.old.unit.state.lun (event.Command received.now.cdb received.now.bytes) }
     ensures step { MovesTwo changer.old.unit (record { low = low.old.unit; high = high.old.unit }) received.now.nexus received.now.cdb received.now.bytes ((changer.new.unit, result.reply), record { low = low.new.unit; high = high.new.unit }) }
     ensures numbers { result.numbers ≡ numbers_of changer.old.unit changer.new.unit ++ numbers_of low.old.unit low.new.unit ++ numbers_of high.old.unit high.new.unit }

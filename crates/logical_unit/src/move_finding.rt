@@ -62,7 +62,7 @@ pub(crate) fn judge_move<D: DeviceServer>(
         Standing::Ended(decision, reply) => Ok(MoveFinding::Ended(decision, reply)),
         Standing::LetThrough(cell) => {
             state.make_contact(nexus);
-            Ok(MoveFinding::Left(Decision::at_device(false).in_cell(cell)))
+            Ok(MoveFinding::Left(Decision::at_device(None).in_cell(cell)))
         }
     }
 }

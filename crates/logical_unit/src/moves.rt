@@ -1,6 +1,6 @@
 ghost use Rattle.std.specs.Prelude.{◌≡◌, ◌≢◌, ◌⊎◌, ◌<◌, ◌+◌, [], ◌∷◌, ◌++◌, true, Ok, Err, IsOk, Some, None, IfOk, OnOk, IfErr, OnErr};
 ghost use Rattle.scsi_cdb.specs.declared.kind.Kind.TheVariants.{Changer};
-ghost use Rattle.device_server.specs.View.{kind_of, drives_of, held_in};
+ghost use Rattle.device_server.specs.View.{kind_of, commands_of, drives_of, held_in};
 ghost use Rattle.judgement.specs.Received.{IsFor};
 ghost use Rattle.logical_unit.specs.MoveJudgement.{DecodesTo, HasWays, StopsMove, AwaitsEnd, Finishes};
 ghost use Rattle.logical_unit.specs.Contents.{SameContents, MayNotChange};
@@ -231,7 +231,7 @@ pub fn move_one<D: DeviceServer>(
     received: &ReceivedCommand<'_>,
 ) -> Receipt
     requires kind { IsFor changer.old.unit.device received.now }
-    requires named { named (drives_of changer.old.unit.device) received.now.cdb ≡ drive.old.unit.state.lun ∷ [] }
+    requires named { named (commands_of changer.old.unit.device) (drives_of changer.old.unit.device) received.now.cdb ≡ drive.old.unit.state.lun ∷ [] }
     ensures units { MovesOne changer.old.unit drive.old.unit received.now.nexus received.now.cdb received.now.bytes ((changer.new.unit, result.reply), drive.new.unit) }
     ensures busy { OneIsBusyOnlyFor changer.old drive.old received.now.nexus received.now.cdb received.now.bytes result.reply }
     ensures numbers { result.numbers.items ≡ numbers_of changer.old.unit changer.new.unit ++ numbers_of drive.old.unit drive.new.unit }
@@ -266,7 +266,7 @@ pub fn move_two<D: DeviceServer>(
     received: &ReceivedCommand<'_>,
 ) -> Receipt
     requires kind { IsFor changer.old.unit.device received.now }
-    requires named { named (drives_of changer.old.unit.device) received.now.cdb ≡ low.old.unit.state.lun ∷ high.old.unit.state.lun ∷ [] }
+    requires named { named (commands_of changer.old.unit.device) (drives_of changer.old.unit.device) received.now.cdb ≡ low.old.unit.state.lun ∷ high.old.unit.state.lun ∷ [] }
     ensures units { MovesTwo changer.old.unit (record { low = low.old.unit; high = high.old.unit }) received.now.nexus received.now.cdb received.now.bytes ((changer.new.unit, result.reply), record { low = low.new.unit; high = high.new.unit }) }
     ensures busy { TwoAreBusyOnlyFor changer.old low.old high.old received.now.nexus received.now.cdb received.now.bytes result.reply }
     ensures numbers { result.numbers.items ≡ numbers_of changer.old.unit changer.new.unit ++ numbers_of low.old.unit low.new.unit ++ numbers_of high.old.unit high.new.unit }
@@ -297,9 +297,9 @@ pub fn move_two<D: DeviceServer>(
 /// The route of a command that names a drive.
 fn route_in<D: DeviceServer>(changer: &LogicalUnit<D>, received: &ReceivedCommand<'_>) -> Route
     requires kind { IsFor changer.now.unit.device received.now }
-    requires named { named (drives_of changer.now.unit.device) received.now.cdb ≢ [] }
-    ensures decodes { DecodesTo (drives_of changer.now.unit.device) received.now.cdb result }
-    ensures route { route_of (drives_of changer.now.unit.device) received.now.cdb ≡ Some result }
+    requires named { named (commands_of changer.now.unit.device) (drives_of changer.now.unit.device) received.now.cdb ≢ [] }
+    ensures decodes { DecodesTo (commands_of changer.now.unit.device) (drives_of changer.now.unit.device) received.now.cdb result }
+    ensures route { route_of (commands_of changer.now.unit.device) (drives_of changer.now.unit.device) received.now.cdb ≡ Some result }
     ensures changer { kind_of changer.now.unit.device ≡ Changer }
 {
     match route_of(changer.drives(), received) {

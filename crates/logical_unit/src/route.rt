@@ -1,5 +1,4 @@
 ghost use Rattle.std.specs.Prelude.{◌≡◌, IfSome};
-ghost use Rattle.scsi_cdb.specs.declared.kind.Kind.TheVariants.{Changer};
 ghost use Rattle.logical_unit.specs.MoveJudgement.{DecodesTo};
 ghost use Rattle.logical_unit.specs.Route.{drive_at, route_of, named};
 
@@ -47,9 +46,8 @@ fn drive_at(drives: u16, address: u16) -> Option<u16>
 
 /// The route of a command to a changer with so many drives; all but MOVE MEDIUM have none.
 pub(crate) fn route_of(drives: u16, received: &ReceivedCommand<'_>) -> Option<Route>
-    requires { received.now.kind ≡ Changer }
-    ensures route { result ≡ route_of drives received.now.cdb }
-    ensures decodes { IfSome result (DecodesTo drives received.now.cdb) }
+    ensures route { result ≡ route_of received.now.commands drives received.now.cdb }
+    ensures decodes { IfSome result (DecodesTo received.now.commands drives received.now.cdb) }
 {
     let Ok(
         Request::MoveMedium {
@@ -72,8 +70,7 @@ pub(crate) fn route_of(drives: u16, received: &ReceivedCommand<'_>) -> Option<Ro
 /// The logical unit numbers of the drives that a command to a changer with so many drives names, rising, each once: one or two for a MOVE
 /// MEDIUM (SMC-3, "MOVE MEDIUM command") with a data transfer element among its ends; none for any other.
 pub fn named(drives: u8, received: &ReceivedCommand<'_>) -> ArrayVec<u8, 2>
-    requires { received.now.kind ≡ Changer }
-    ensures { result.items ≡ named drives received.now.cdb }
+    ensures { result.items ≡ named received.now.commands drives received.now.cdb }
 {
     let mut luns = ArrayVec::new();
     let Some(route) = route_of(u16::from(drives), received) else {

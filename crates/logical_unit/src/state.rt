@@ -134,7 +134,7 @@ impl RecordedUnit {
 
 impl RecordedUnit {
     ghost use Rattle.std.specs.Prelude.{◌≡◌, ◌<◌, ◌+◌, ◌^◌, ℕ, true, false, [], ◌∷◌, ◌++◌, Some, None, IfOk, OnErr, length, vec_capacity};
-    ghost use Rattle.device_server.specs.View.{DeviceView, kind_of};
+    ghost use Rattle.device_server.specs.View.{DeviceView, kind_of, commands_of};
     ghost use Rattle.judgement.specs.Commands.{act_of_decoded};
     ghost use Rattle.judgement.specs.Received.{IsFor, command_in};
     ghost use Rattle.logical_unit.specs.ActKinds.{act_kind_of};
@@ -147,7 +147,7 @@ impl RecordedUnit {
     ghost use Rattle.judgement.specs.UnitState.{kept_after_loss, kept_after_reset};
     ghost use Rattle.logical_unit.specs.Legal.{IsTrail};
     ghost use Rattle.scsi_cdb.specs.declared.kind.Kind.TheVariants.{Changer};
-    ghost use Rattle.device_server.specs.View.{drives_of};
+    ghost use Rattle.device_server.specs.View.{commands_of, drives_of};
     ghost use Rattle.judgement.specs.Replies.{IsWhole, numbered};
     ghost use Rattle.logical_unit.specs.MoveJudgement.{DecodesTo, Begins, StaysIf, IsLeftOpen, AwaitsEnd};
     ghost use Rattle.logical_unit.specs.Step.{record_of};
@@ -196,7 +196,7 @@ impl RecordedUnit {
     ) -> Result<MoveJudgement, AllocError>
         requires changer { kind_of (D.shown device.old.value) ≡ Changer }
         requires kind { IsFor (D.shown device.old.value) received.now }
-        requires route { DecodesTo (drives_of (D.shown device.old.value)) received.now.cdb route }
+        requires route { DecodesTo (commands_of (D.shown device.old.value)) (drives_of (D.shown device.old.value)) received.now.cdb route }
         requires slot { has_room self.old.state received.now.nexus ≡ true }
         requires room { 0 < self.old.room }
         requires number { last_in self.old + 1 < 2 ^ 64 }
@@ -338,7 +338,7 @@ fn note(
         rule: decision.rule,
         status,
         sense,
-        mode_changed: decision.mode_changed,
+        told: decision.told,
     });
     number
 }

@@ -6,7 +6,7 @@ use crate::state::RecordedUnit;
 use audit_log::{Act, Record};
 use device_server::{Attendant, DeviceServer, Payload};
 use judgement::{Decision, ReceivedCommand, Reply};
-use scsi_cdb::Kind;
+use scsi_cdb::{CommandSet, Kind};
 use scsi_nexus::Nexus;
 use scsi_sense::Condition;
 use std::alloc::{AllocError, Global};
@@ -41,7 +41,7 @@ impl<D: DeviceServer> Model for LogicalUnit<D> {
 impl<D: DeviceServer> LogicalUnit<D> {
     ghost use Rattle.std.specs.Prelude.{◌≡◌, map, string_bytes, IfOk, IfErr};
     ghost use Rattle.logical_unit.specs.Audit.{audit_of};
-    ghost use Rattle.device_server.specs.View.{kind_of, drives_of, held_in};
+    ghost use Rattle.device_server.specs.View.{kind_of, commands_of, drives_of, held_in};
     ghost use Rattle.judgement.specs.UnitState.{is_prevented, has_room, HaveSlots};
     ghost use Rattle.logical_unit.specs.Step.{made};
     ghost use Rattle.logical_unit.specs.Legal.{IsTrail};
@@ -82,6 +82,16 @@ impl<D: DeviceServer> LogicalUnit<D> {
         ensures { result ≡ kind_of self.now.unit.device }
     {
         self.device.kind()
+    }
+
+    /// The commands that it has, by the profile and the kind of its device.
+    pub fn commands(&self) -> CommandSet
+        ensures { result ≡ commands_of self.now.unit.device }
+    {
+        CommandSet {
+            profile: self.device.profile(),
+            kind: self.device.kind(),
+        }
     }
 
     /// How many data transfer elements a changer has; 0 for a drive.
@@ -353,7 +363,7 @@ impl<D: DeviceServer> LogicalUnit<D> {
 impl<D: DeviceServer> LogicalUnit<D> {
     ghost use Rattle.std.specs.Prelude.{◌≡◌, ◌<◌, ◌+◌, ◌⊎◌, false, Ok, IsOk, is_ok, IsTrue, OnOk, IfErr, Err};
     ghost use Rattle.scsi_cdb.specs.declared.kind.Kind.TheVariants.{Changer};
-    ghost use Rattle.device_server.specs.View.{kind_of, drives_of, taken, put};
+    ghost use Rattle.device_server.specs.View.{kind_of, commands_of, drives_of, taken, put};
     ghost use Rattle.judgement.specs.Replies.{IsWhole};
     ghost use Rattle.judgement.specs.JudgedUnit.{JudgedUnit};
     ghost use Rattle.logical_unit.specs.MoveJudgement.{DecodesTo, BeginsAt, AwaitsEnd};
@@ -383,7 +393,7 @@ impl<D: DeviceServer> LogicalUnit<D> {
     ) -> MoveJudgement
         requires changer { kind_of self.old.unit.device ≡ Changer }
         requires kind { IsFor self.old.unit.device received.now }
-        requires route { DecodesTo (drives_of self.old.unit.device) received.now.cdb route }
+        requires route { DecodesTo (commands_of self.old.unit.device) (drives_of self.old.unit.device) received.now.cdb route }
         ensures { BeginsAt self.old self.new received.now.nexus received.now.cdb received.now.bytes route result }
     {
         if !self.state.has_room(received.nexus()) {
@@ -471,7 +481,7 @@ impl<D: DeviceServer> LogicalUnit<D> {
 
 ghost use Rattle.std.specs.Prelude.{◌≡◌, ℕ, Ok, IsOk, is_ok, is_err};
 ghost use Rattle.scsi_cdb.specs.declared.kind.Kind.TheVariants.{Drive};
-ghost use Rattle.device_server.specs.View.{kind_of, taken, put};
+ghost use Rattle.device_server.specs.View.{kind_of, commands_of, taken, put};
 ghost use Rattle.logical_unit.specs.Move.{same_tag, names_held};
 ghost use Rattle.logical_unit.specs.Step.{event_reply};
 

@@ -7,7 +7,7 @@ use Rattle.scsi_cdb.specs.declared.kind.Kind.TheVariants as kind
 use Rattle.device_server.specs.View.{DeviceView, Drive, Changer, kind_of, drives_of}
 use Rattle.logical_unit.specs.UnitView.{UnitView, UnitWithRoom}
 use Rattle.scsi_cdb.specs.Kinds.{kind_at}
-use Rattle.target_core.specs.Faults.{fault_of}
+use Rattle.target_core.specs.Faults.{fault_of, profile_in}
 use Rattle.target_core.proofs.Ordered.{ordered, has_drives, drive_of}
 use Rattle.lun_router.specs.Units.{IsAt}
 
@@ -22,20 +22,20 @@ kind_above i = grind (arith, nat_tests)
 is_zero : (n : ℕ) → (n == 0) ≡ true → n ≡ 0
 is_zero n h = grind (arith, nat_tests)
 
-pub placed : (us : List UnitView) (k : ℕ) (u : UnitView) → fault_of us ≡ None → slice_get us k ≡ Some u → IsAt k u
+pub placed : (us : List UnitView) (k : ℕ) (u : UnitView) → fault_of us ≡ None → slice_get us k ≡ Some u → IsAt (profile_in us) k u
 placed [] k u whole there = absurd cc
 placed (c ∷ ds) zero u whole there =
     let o = ordered c ds whole in
     let is : c ≡ u = cc in
     let count = has_drives c ds o in
     let most = o.few in
-    subst (λ (x : UnitView). IsAt 0 x) is (record { kind = o.kind; place = is_zero c.state.lun o.lun; few = omega (arith, count, most) })
+    subst (λ (x : UnitView). IsAt (profile_in (c ∷ ds)) 0 x) is (record { kind = o.kind; profile = refl; place = is_zero c.state.lun o.lun; few = omega (arith, count, most) })
 placed (c ∷ ds) (suc i) u whole there =
     let o = ordered c ds whole in
     let at = drive_of c ds i u o there in
     let none = drive_has_none u.device at.kind in
     let one : suc i ≡ i + 1 = omega arith in
-    subst (λ (k : ℕ). IsAt k u) (sym one) (record { kind = at.kind ∙ sym (kind_above i); place = at.lun; few = omega (arith, none) })
+    subst (λ (k : ℕ). IsAt (profile_in (c ∷ ds)) k u) (sym one) (record { kind = at.kind ∙ sym (kind_above i); profile = at.profile; place = at.lun; few = omega (arith, none) })
 
 -- how many there are
 pub enough : (us : List UnitView) → fault_of us ≡ None → 2 ≤ length us
@@ -62,7 +62,7 @@ abbrev pub units_in : Option UnitWithRoom → Option UnitView
 units_in o = option_map (λ (u : UnitWithRoom). u.unit) o
 
 pub placed_some : (us : List UnitView) (k : ℕ) (o : Option UnitWithRoom) → fault_of us ≡ None → units_in o ≡ slice_get us k → ForSome o
-    (λ u. IsAt k u.unit)
+    (λ u. IsAt (profile_in us) k u.unit)
 placed_some us k o whole is = λ (u : UnitWithRoom) (has : o ≡ Some u). placed us k u.unit whole (sym is ∙ ap units_in has)
 
 pub is_there : (us : List UnitView) (k : ℕ) (o : Option UnitWithRoom) → units_in o ≡ slice_get us k → is_some o ≡ nat_lt k (length us)

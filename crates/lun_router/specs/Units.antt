@@ -1,7 +1,8 @@
 -- The units under locks: how many there are, and which.
 use Rattle.std.specs.Prelude.{◌≡◌, ℕ, ◌≤◌, ◌<◌, ◌^◌, nat_lt, Option, is_some}
-use Rattle.device_server.specs.View.{kind_of, drives_of}
+use Rattle.device_server.specs.View.{kind_of, profile_of, drives_of}
 use Rattle.logical_unit.specs.UnitView.{UnitView}
+use Rattle.scsi_cdb.specs.declared.profile.Profile.{Profile}
 use Rattle.scsi_cdb.specs.Kinds.{kind_at}
 
 -- how many units there are
@@ -16,8 +17,9 @@ pub record HasUnits {A B C : Type 0} (units : ℕ) (two : Option A) (three : Opt
   pub third : is_some three ≡ nat_lt 3 units
   pub fourth : is_some four ≡ nat_lt 4 units
 
--- a unit of that number
-pub record IsAt (lun : ℕ) (u : UnitView) : Type 0 where
+-- a unit of that number, of a profile
+pub record IsAt (p : Profile) (lun : ℕ) (u : UnitView) : Type 0 where
   pub kind : kind_of u.device ≡ kind_at lun
+  pub profile : profile_of u.device ≡ p
   pub place : u.state.lun ≡ lun
   pub few : drives_of u.device < 2 ^ 8

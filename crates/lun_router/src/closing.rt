@@ -144,7 +144,11 @@ impl<B: Ledgers, D: DeviceServer, G: Gate> Library<B, D, G> {
         if seats.len() != self.seats {
             return Err((CloseFault::SeatMissing, self, seats));
         }
-        let Library { seats: made, locks } = self;
+        let Library {
+            seats: made,
+            profile,
+            locks,
+        } = self;
         let count = locks.units();
         let (units, gate) = locks.take();
         let fault = match agree(alloc, &units, &seats) {
@@ -154,6 +158,7 @@ impl<B: Ledgers, D: DeviceServer, G: Gate> Library<B, D, G> {
         };
         let library = Library {
             seats: made,
+            profile,
             locks: UnitLocks::put(count, units, gate),
         };
         Err((fault, library, seats))

@@ -2,6 +2,7 @@ use crate::all_locks::UnitLocks;
 use crate::gate::Gate;
 use device_server::DeviceServer;
 use kept_unit::Ledgers;
+use scsi_cdb::Profile;
 use std::marker::Model;
 
 /// The units of a library, each under a lock of its own: a changer as logical unit 0 and one to four drives. Contracts see
@@ -18,6 +19,7 @@ use std::marker::Model;
 #[derive(Drop)]
 pub struct Library<B: Ledgers, D: DeviceServer, G: Gate> {
     pub(crate) seats: usize,
+    pub(crate) profile: Profile,
     pub(crate) locks: UnitLocks<B, D, G>,
 }
 
@@ -29,7 +31,7 @@ impl<B: Ledgers, D: DeviceServer, G: Gate> Model for Library<B, D, G> {
 
     ghost view = { λ l. record { seats = l.seats; units = l.locks.units } };
 
-    ghost invariant = { λ l. (0 < l.seats) × (B.all_parts ≡ l.seats + 1) };
+    ghost invariant = { λ l. (0 < l.seats) × (B.all_parts ≡ l.seats + 1) × (l.profile ≡ B.profile) };
 }
 
 impl<B: Ledgers, D: DeviceServer, G: Gate> Library<B, D, G> {
@@ -40,5 +42,12 @@ impl<B: Ledgers, D: DeviceServer, G: Gate> Library<B, D, G> {
         ensures { result ≡ self.now.units }
     {
         self.locks.units()
+    }
+
+    /// The profile that all units are of.
+    pub fn profile(&self) -> Profile
+        ensures { result ≡ B.profile }
+    {
+        self.profile
     }
 }

@@ -6,7 +6,7 @@ ghost use Rattle.logical_unit.specs.declared.act_kind.ActKind.TheVariants as kin
 ghost use Rattle.logical_unit.specs.Answers as event;
 ghost use Rattle.logical_unit.specs.Answers.{IsAnswer};
 ghost use Rattle.logical_unit.specs.ActKinds.{act_kind_of, act_kind_if};
-ghost use Rattle.scsi_cdb.specs.Kinds.{kind_at};
+ghost use Rattle.scsi_cdb.specs.Kinds.{kind_at, commands_at};
 ghost use Rattle.lun_router.specs.Answering.{AnswersAsAbsent, LeavesNoneFor, LosesNoneFor, RefusesAsAbsent, IsSomeTrail};
 ghost use Rattle.lun_router.specs.Shares.{Rise};
 
@@ -37,7 +37,7 @@ impl<B: Ledgers, D: DeviceServer, G: Gate> UnitLocks<B, D, G> {
         lun: u8,
         received: &ReceivedCommand<'a>,
     ) -> Done<'a>
-        requires kind { received.now.kind ≡ kind_at lun }
+        requires commands { received.now.commands ≡ commands_at B.profile lun }
         ensures answer { IsAnswer result (Some received.now.nexus) lun (event.Command received.now.cdb received.now.bytes) }
         ensures act { result.act ≡ act_kind_if result.numbers (act_kind_of (act_of_decoded (command_in received.now))) }
         ensures absent { AnswersAsAbsent self.now.units lun received.now.cdb result.reply }

@@ -43,7 +43,7 @@ fn put_under_lock<const LUN: u8, L: UnitLedger, D: DeviceServer>(
 ) -> (Locked<LUN, L, D>, Share<L>)
     requires parts { 0 < L.parts }
     requires blank { (blank.name ≡ L.name) × (blank.parts ≡ L.parts) }
-    requires unit { IsAt LUN unit.unit }
+    requires unit { IsAt L.profile LUN unit.unit }
     requires since { last_number unit.unit ≡ L.since }
     ensures parts { result.1.parts + 1 ≡ L.parts }
     ensures amount { result.1.amount ≡ 0 }
@@ -61,7 +61,7 @@ fn put_under_lock_if_there<const LUN: u8, L: UnitLedger, D: DeviceServer>(
 ) -> (Option<Locked<LUN, L, D>>, Share<L>)
     requires parts { 0 < L.parts }
     requires blank { (blank.name ≡ L.name) × (blank.parts ≡ L.parts) }
-    requires unit { ForSome unit (λ u. IsAt LUN u.unit) }
+    requires unit { ForSome unit (λ u. IsAt L.profile LUN u.unit) }
     requires since { ForSome unit (λ u. last_number u.unit ≡ L.since) }
     ensures there { is_some result.0 ≡ is_some unit }
     ensures parts { result.1.parts + 1 ≡ L.parts }
@@ -92,11 +92,11 @@ impl<B: Ledgers, D: DeviceServer, G: Gate> UnitLocks<B, D, G> {
         requires blanks { AreBlanks B.names B.all_parts blanks }
         requires some { 0 < B.all_parts }
         requires units { HasUnits units.count units.second units.third units.fourth }
-        requires changer { IsAt 0 units.changer.unit }
-        requires first { IsAt 1 units.first.unit }
-        requires second { ForSome units.second (λ u. IsAt 2 u.unit) }
-        requires third { ForSome units.third (λ u. IsAt 3 u.unit) }
-        requires fourth { ForSome units.fourth (λ u. IsAt 4 u.unit) }
+        requires changer { IsAt B.profile 0 units.changer.unit }
+        requires first { IsAt B.profile 1 units.first.unit }
+        requires second { ForSome units.second (λ u. IsAt B.profile 2 u.unit) }
+        requires third { ForSome units.third (λ u. IsAt B.profile 3 u.unit) }
+        requires fourth { ForSome units.fourth (λ u. IsAt B.profile 4 u.unit) }
         requires changer_since { last_number units.changer.unit ≡ B.since_of 0 }
         requires first_since { last_number units.first.unit ≡ B.since_of 1 }
         requires second_since { ForSome units.second (λ u. last_number u.unit ≡ B.since_of 2) }

@@ -1,7 +1,6 @@
 //! One call at the unit under a lock, or at the units under several: the changer's lock is taken first, then those of the
 //! drives by rising number.
 ghost use Rattle.std.specs.Prelude.{◌≡◌, ◌≢◌, ◌⊎◌, ◌<◌, ◌+◌, [], ◌∷◌, ℕ, true, false, Some, None, IsTrue, IsSome, IsNone, ◌↔◌};
-ghost use Rattle.scsi_cdb.specs.declared.kind.Kind.TheVariants.{Changer};
 ghost use Rattle.scsi_sense.specs.declared.condition.Condition.TheVariants.{LogicalUnitNotSupported};
 ghost use Rattle.device_server.specs.Attending.{WasAsked};
 ghost use Rattle.device_server.specs.View.{drives_of};
@@ -14,7 +13,7 @@ ghost use Rattle.logical_unit.specs.declared.act_kind.ActKind.TheVariants as kin
 ghost use Rattle.logical_unit.specs.Answers as event;
 ghost use Rattle.logical_unit.specs.Answers.{IsAnswer, count_at, OnlyAt};
 ghost use Rattle.logical_unit.specs.ActKinds.{act_kind_of, act_kind_if};
-ghost use Rattle.scsi_cdb.specs.Kinds.{kind_at};
+ghost use Rattle.scsi_cdb.specs.Kinds.{kind_at, commands_at};
 ghost use Rattle.lun_router.specs.Answering.{IsSomeTrail};
 
 use crate::gate::Gate;
@@ -38,7 +37,7 @@ pub(crate) fn step_at<'a, const LUN: u8, L: UnitLedger, D: DeviceServer, G: Gate
     part: &mut Share<L>,
     received: &ReceivedCommand<'a>,
 ) -> Done<'a>
-    requires kind { received.now.kind ≡ kind_at LUN }
+    requires commands { received.now.commands ≡ commands_at L.profile LUN }
     requires parts { part.old.parts ≡ 1 }
     ensures answer { IsAnswer result (Some received.now.nexus) LUN (event.Command received.now.cdb received.now.bytes) }
     ensures act { result.act ≡ act_kind_if result.numbers (act_kind_of (act_of_decoded (command_in received.now))) }
@@ -61,7 +60,7 @@ pub(crate) fn step_if_there<'a, const LUN: u8, L: UnitLedger, D: DeviceServer, G
     part: &mut Share<L>,
     received: &ReceivedCommand<'a>,
 ) -> Done<'a>
-    requires kind { received.now.kind ≡ kind_at LUN }
+    requires commands { received.now.commands ≡ commands_at L.profile LUN }
     requires parts { part.old.parts ≡ 1 }
     ensures answer { IsAnswer result (Some received.now.nexus) LUN (event.Command received.now.cdb received.now.bytes) }
     ensures act { result.act ≡ act_kind_if result.numbers (act_kind_of (act_of_decoded (command_in received.now))) }
@@ -267,11 +266,11 @@ pub(crate) fn move_with_one<
     drive_part: &mut Share<L>,
     received: &ReceivedCommand<'a>,
 ) -> Done<'a>
-    requires kind { received.now.kind ≡ Changer }
+    requires commands { received.now.commands ≡ commands_at C.profile 0 }
     requires part { part.old.parts ≡ 1 }
     requires drive_part { drive_part.old.parts ≡ 1 }
     requires drive { 0 < LUN }
-    requires named { named (drives_of changer.old.unit.device) received.now.cdb ≡ LUN ∷ [] }
+    requires named { named received.now.commands (drives_of changer.old.unit.device) received.now.cdb ≡ LUN ∷ [] }
     ensures answer { IsAnswer result (Some received.now.nexus) 0 (event.Command received.now.cdb received.now.bytes) }
     ensures act { result.act ≡ act_kind_if result.numbers (act_kind_of (act_of_decoded (command_in received.now))) }
     ensures only { (k : ℕ) → k ≢ 0 → k ≢ LUN → count_at k result.numbers ≡ 0 }
@@ -310,12 +309,12 @@ pub(crate) fn move_with_two<
     high_part: &mut Share<H>,
     received: &ReceivedCommand<'a>,
 ) -> Done<'a>
-    requires kind { received.now.kind ≡ Changer }
+    requires commands { received.now.commands ≡ commands_at C.profile 0 }
     requires part { part.old.parts ≡ 1 }
     requires low_part { low_part.old.parts ≡ 1 }
     requires high_part { high_part.old.parts ≡ 1 }
     requires drives { (0 < LOW) × (LOW < HIGH) }
-    requires named { named (drives_of changer.old.unit.device) received.now.cdb ≡ LOW ∷ HIGH ∷ [] }
+    requires named { named received.now.commands (drives_of changer.old.unit.device) received.now.cdb ≡ LOW ∷ HIGH ∷ [] }
     ensures answer { IsAnswer result (Some received.now.nexus) 0 (event.Command received.now.cdb received.now.bytes) }
     ensures act { result.act ≡ act_kind_if result.numbers (act_kind_of (act_of_decoded (command_in received.now))) }
     ensures only { (k : ℕ) → k ≢ 0 → k ≢ LOW → k ≢ HIGH → count_at k result.numbers ≡ 0 }

@@ -1,5 +1,5 @@
 ghost use Rattle.std.specs.Prelude.{◌≡◌, [], ◌∷◌, Some};
-ghost use Rattle.scsi_cdb.specs.declared.kind.Kind.TheVariants.{Changer};
+ghost use Rattle.scsi_cdb.specs.Kinds.{commands_at};
 ghost use Rattle.device_server.specs.View.{drives_of};
 ghost use Rattle.judgement.specs.Replies.{busy};
 ghost use Rattle.judgement.specs.Commands.{act_of_decoded};
@@ -32,8 +32,8 @@ impl<B: Ledgers, D: DeviceServer, G: Gate> UnitLocks<B, D, G> {
         drive: u8,
         received: &ReceivedCommand<'a>,
     ) -> Done<'a>
-        requires kind { received.now.kind ≡ Changer }
-        requires named { named (drives_of changer.old.unit.device) received.now.cdb ≡ drive ∷ [] }
+        requires commands { received.now.commands ≡ commands_at B.profile 0 }
+        requires named { named received.now.commands (drives_of changer.old.unit.device) received.now.cdb ≡ drive ∷ [] }
         ensures answer { IsAnswer result (Some received.now.nexus) 0 (event.Command received.now.cdb received.now.bytes) }
         ensures act { result.act ≡ act_kind_if result.numbers (act_kind_of (act_of_decoded (command_in received.now))) }
         ensures unnumbered { result.numbers ≡ [] → result.reply ≡ busy }
@@ -75,8 +75,8 @@ impl<B: Ledgers, D: DeviceServer, G: Gate> UnitLocks<B, D, G> {
         high: u8,
         received: &ReceivedCommand<'a>,
     ) -> Done<'a>
-        requires kind { received.now.kind ≡ Changer }
-        requires named { named (drives_of changer.old.unit.device) received.now.cdb ≡ low ∷ high ∷ [] }
+        requires commands { received.now.commands ≡ commands_at B.profile 0 }
+        requires named { named received.now.commands (drives_of changer.old.unit.device) received.now.cdb ≡ low ∷ high ∷ [] }
         ensures answer { IsAnswer result (Some received.now.nexus) 0 (event.Command received.now.cdb received.now.bytes) }
         ensures act { result.act ≡ act_kind_if result.numbers (act_kind_of (act_of_decoded (command_in received.now))) }
         ensures unnumbered { result.numbers ≡ [] → result.reply ≡ busy }
@@ -129,7 +129,7 @@ impl<B: Ledgers, D: DeviceServer, G: Gate> UnitLocks<B, D, G> {
         parts: &mut SeatShares<B>,
         received: &ReceivedCommand<'a>,
     ) -> Done<'a>
-        requires kind { received.now.kind ≡ Changer }
+        requires commands { received.now.commands ≡ commands_at B.profile 0 }
         ensures answer { IsAnswer result (Some received.now.nexus) 0 (event.Command received.now.cdb received.now.bytes) }
         ensures act { result.act ≡ act_kind_if result.numbers (act_kind_of (act_of_decoded (command_in received.now))) }
         ensures unnumbered { result.numbers ≡ [] → result.reply ≡ busy }

@@ -1,5 +1,6 @@
 ghost use Rattle.std.specs.Prelude.{◌≡◌, ◌<◌, ◌+◌, All, IfOk, IfErr, length, vec_len};
 ghost use Rattle.logical_unit.specs.UnitView.{units_of};
+ghost use Rattle.target_core.specs.Faults.{profile_in};
 ghost use Rattle.lun_router.specs.Blanks.{AreBlanks};
 ghost use Rattle.lun_router.specs.Opening.{IsSince};
 ghost use Rattle.lun_router.specs.Seats.{IsUntold};
@@ -30,7 +31,7 @@ fn cut<B: Ledgers>(alloc: Global, shares: &mut AllShares<B>) -> Seat<B>
 impl<B: Ledgers, D: DeviceServer, G: Gate> Library<B, D, G> {
     /// Puts each unit of a target under a lock of its own, and makes so many seats. It is called by a function that is
     /// generic over the ledgers, which its caller picks with `Brand`: the blanks' names, and the last record numbers
-    /// that the units have used. A refusal hands the target back; the blanks are spent.
+    /// that the units have used and their profile. A refusal hands the target back; the blanks are spent.
     pub fn new(
         alloc: Global,
         core: TargetCore<D>,
@@ -42,6 +43,7 @@ impl<B: Ledgers, D: DeviceServer, G: Gate> Library<B, D, G> {
         requires blanks { AreBlanks B.names B.all_parts blanks }
         requires parts { B.all_parts ≡ seats + 1 }
         requires since { IsSince (units_of core) B.since_of }
+        requires profile { profile_in (units_of core) ≡ B.profile }
         ensures units { IfOk result (λ opened. opened.0.units ≡ length (units_of core)) }
         ensures seats { IfOk result (λ opened. (opened.0.seats ≡ seats) × (vec_len opened.1 ≡ seats)) }
         ensures untold { IfOk result (λ opened. All IsUntold opened.1.items) }
@@ -51,10 +53,16 @@ impl<B: Ledgers, D: DeviceServer, G: Gate> Library<B, D, G> {
         if let Err(refused) = all.reserve(seats) {
             return Err((refused.into(), core));
         }
+        let profile = core.profile();
         let (locks, mut shares) = UnitLocks::open(alloc, split_units(core), blanks, gate);
         for _i in 0..seats {
             all.push_reserved(cut(alloc, &mut shares));
         }
-        Ok((Library { seats, locks }, all))
+        let library = Library {
+            seats,
+            profile,
+            locks,
+        };
+        Ok((library, all))
     }
 }

@@ -5,7 +5,7 @@ ghost use Rattle.logical_unit.specs.declared.act_kind.ActKind.TheVariants as kin
 ghost use Rattle.logical_unit.specs.Answers as event;
 ghost use Rattle.logical_unit.specs.Answers.{IsAnswer};
 ghost use Rattle.logical_unit.specs.ActKinds.{act_kind_of, act_kind_if};
-ghost use Rattle.scsi_cdb.specs.Kinds.{kind_at};
+ghost use Rattle.scsi_cdb.specs.Kinds.{kind_at, commands_at};
 ghost use Rattle.lun_router.specs.Answering.{AnswersAsAbsent, LeavesNoneFor, LosesNoneFor, RefusesAsAbsent, IsSomeTrail};
 ghost use Rattle.lun_router.specs.Seats.{Notes, Settles};
 
@@ -17,7 +17,7 @@ use device_server::{Attendant, DeviceServer};
 use judgement::ReceivedCommand;
 use kept_unit::Ledgers;
 use logical_unit::{Done, EventKind};
-use scsi_cdb::kind_at;
+use scsi_cdb::commands_at;
 use scsi_nexus::Nexus;
 use std::alloc::{AllocError, Global};
 use std::sync::Wait;
@@ -37,7 +37,7 @@ impl<B: Ledgers, D: DeviceServer, G: Gate> Library<B, D, G> {
         bytes: &'a [u8],
     ) -> Done<'a>
         ensures answer { IsAnswer result (Some nexus) lun (event.Command cdb.now bytes.now) }
-        ensures act { result.act ≡ act_kind_if result.numbers (act_kind_of (act_of (kind_at lun) cdb.now bytes.now)) }
+        ensures act { result.act ≡ act_kind_if result.numbers (act_kind_of (act_of (commands_at B.profile lun) cdb.now bytes.now)) }
         ensures absent { AnswersAsAbsent self.now.units lun cdb.now result.reply }
         ensures unnumbered { LeavesNoneFor self.now.units lun result.numbers result.reply }
         ensures notes { Notes seat.old result seat.new }
@@ -46,7 +46,7 @@ impl<B: Ledgers, D: DeviceServer, G: Gate> Library<B, D, G> {
         if !entries.make_room() {
             return Done::busy(alloc, Some(nexus), lun, EventKind::Command { cdb, bytes });
         }
-        let received = ReceivedCommand::new(nexus, kind_at(lun), cdb, bytes);
+        let received = ReceivedCommand::new(nexus, commands_at(self.profile, lun), cdb, bytes);
         let done = self.locks.step(rt, alloc, parts, lun, &received);
         entries.push_reserved(done.entry());
         done

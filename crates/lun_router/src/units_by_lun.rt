@@ -1,7 +1,7 @@
 ghost use Rattle.std.specs.Prelude.{◌≡◌, ◌+◌, ℕ, Some, None, length, drop, slice_get, nat_lt, is_some};
 ghost use Rattle.std.specs.Option.{ForSome, option_map};
 ghost use Rattle.logical_unit.specs.UnitView.{last_number, units_of};
-ghost use Rattle.target_core.specs.Faults.{fault_of};
+ghost use Rattle.target_core.specs.Faults.{fault_of, profile_in};
 ghost use Rattle.lun_router.specs.Units.{IsAt, HasUnits};
 
 use crate::locking::UnitsByLun;
@@ -24,11 +24,11 @@ fn take_first<D: DeviceServer>(units: &mut Vec<LogicalUnit<D>>) -> Option<Logica
 pub(crate) fn split_units<D: DeviceServer>(core: TargetCore<D>) -> UnitsByLun<D>
     ensures count { result.count ≡ length (units_of core) }
     ensures units { HasUnits result.count result.second result.third result.fourth }
-    ensures changer { IsAt 0 result.changer.unit }
-    ensures first { IsAt 1 result.first.unit }
-    ensures second { ForSome result.second (λ u. IsAt 2 u.unit) }
-    ensures third { ForSome result.third (λ u. IsAt 3 u.unit) }
-    ensures fourth { ForSome result.fourth (λ u. IsAt 4 u.unit) }
+    ensures changer { IsAt (profile_in (units_of core)) 0 result.changer.unit }
+    ensures first { IsAt (profile_in (units_of core)) 1 result.first.unit }
+    ensures second { ForSome result.second (λ u. IsAt (profile_in (units_of core)) 2 u.unit) }
+    ensures third { ForSome result.third (λ u. IsAt (profile_in (units_of core)) 3 u.unit) }
+    ensures fourth { ForSome result.fourth (λ u. IsAt (profile_in (units_of core)) 4 u.unit) }
     ensures changer_is { slice_get (units_of core) 0 ≡ Some result.changer.unit }
     ensures first_is { slice_get (units_of core) 1 ≡ Some result.first.unit }
     ensures second_is { option_map (λ u. u.unit) result.second ≡ slice_get (units_of core) 2 }

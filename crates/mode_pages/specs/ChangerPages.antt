@@ -1,6 +1,6 @@
 -- The mode pages of a medium changer (SPC-4, "Mode parameters"; SMC-3, "Mode parameters"), each to the byte.
 use Rattle.std.specs.Prelude.{ℕ, ◌==◌, Bool, true, false, not, if◌then◌else◌, List, [], ◌∷◌, ◌++◌, replicate, Option, Some, None}
-use Rattle.scsi_cdb.specs.Encoding.{two}
+use Rattle.scsi_cdb.specs.Bytes.{two}
 use Rattle.mode_pages.specs.declared.changer_page.ChangerPage.{ChangerPage}
 use Rattle.mode_pages.specs.declared.changer_page.ChangerPage.TheVariants.{Control, InformationalExceptionsControl, ElementAddressAssignment, TransportGeometryParameters, DeviceCapabilities}
 use Rattle.mode_pages.specs.declared.elements.ElementAddresses.{ElementAddresses}

@@ -1,6 +1,6 @@
 -- The data of MODE SENSE of a drive (SSC-4, "Mode parameters").
 use Rattle.std.specs.Prelude.{ℕ, Bool, true, false, List, [], ◌∷◌, flat_map, Option, Some, None, is_some, Result, Ok, Err}
-use Rattle.scsi_cdb.specs.Encoding.{three}
+use Rattle.scsi_cdb.specs.Bytes.{three}
 use Rattle.scsi_sense.specs.declared.condition.Condition.{Condition}
 use Rattle.mode_pages.specs.Values.{default_values}
 use Rattle.mode_pages.specs.Lists.{mode_data}

@@ -1,6 +1,6 @@
 -- Mode parameter lists (SPC-4, "Mode parameter list formats"): a header, block descriptors, mode pages.
 use Rattle.std.specs.Prelude.{ℕ, ◌+◌, ◌-◌, List, [], ◌∷◌, ◌++◌, length, replicate}
-use Rattle.scsi_cdb.specs.Encoding.{two}
+use Rattle.scsi_cdb.specs.Bytes.{two}
 use Rattle.mode_pages.specs.declared.request.HeaderForm.{HeaderForm}
 use Rattle.mode_pages.specs.declared.request.HeaderForm.TheVariants.{Six, Ten}
 

@@ -1,5 +1,6 @@
 -- Worked rows: the lines of replies, and of the records of units.
 use Rattle.std.specs.Prelude.{◌≡◌, ℕ, true, false, List, [], ◌∷◌, ◌++◌, replicate, Option, Some, None, codes}
+use Rattle.scsi_cdb.specs.declared.profile.Profile.TheVariants.{Spec}
 use Rattle.scsi_nexus.specs.declared.nexus.Nexus.{Nexus}
 use Rattle.scsi_sense.specs.declared.sense.Sense.{Sense}
 use Rattle.scsi_sense.specs.declared.status.Status.{Status}
@@ -57,18 +58,18 @@ abbrev pub read_element_status : List ℕ
 read_element_status = 0xB8 ∷ replicate 8 0 ++ 8 ∷ 0 ∷ 0 ∷ []
 
 pub record ExplainedReplies : Type 0 where
-  pub off : answer_text words.Off 1 (replicate 6 0) Good None [] ≡ line (codes "00 - -")
-  pub good : answer_text words.On 1 (replicate 6 0) Good None [] ≡ line (codes "00 - -") ++ line (codes "# GOOD")
-  pub sense : answer_text words.On 1 (replicate 6 0) CheckCondition (Some power_on) []
+  pub off : answer_text words.Off Spec 1 (replicate 6 0) Good None [] ≡ line (codes "00 - -")
+  pub good : answer_text words.On Spec 1 (replicate 6 0) Good None [] ≡ line (codes "00 - -") ++ line (codes "# GOOD")
+  pub sense : answer_text words.On Spec 1 (replicate 6 0) CheckCondition (Some power_on) []
       ≡ line (codes "02 700006000000000a00000000290000000000 -")
       ++ line (codes "# CHECK CONDITION, UNIT ATTENTION: power on, reset, or bus device reset occurred")
   -- the words are those of the command's data
-  pub told : answer_text words.On 1 read_keys Good None keys
+  pub told : answer_text words.On Spec 1 read_keys Good None keys
       ≡ line (codes "00 - 00000001000000081122334455667788") ++ line (codes "# GOOD, generation 1, keys 1122334455667788")
   -- of a unit that has the command
-  pub changer : answer_text words.On 0 read_element_status Good None (replicate 8 0)
+  pub changer : answer_text words.On Spec 0 read_element_status Good None (replicate 8 0)
       ≡ line (codes "00 - 0000000000000000") ++ line (codes "# GOOD, no elements")
-  pub drive : answer_text words.On 1 read_element_status Good None (replicate 8 0)
+  pub drive : answer_text words.On Spec 1 read_element_status Good None (replicate 8 0)
       ≡ line (codes "00 - 0000000000000000") ++ line (codes "# GOOD, 8 bytes")
 
 abbrev pub entry : ℕ → Option Nexus → Act → Record
@@ -81,7 +82,7 @@ entry number nexus act = record {
   rule = None;
   status = Good;
   sense = None;
-  mode_changed = false;
+  told = None;
 }
 
 abbrev pub unit_with : (lun : ℕ) → List Record → UnitView

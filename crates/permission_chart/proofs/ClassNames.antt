@@ -7,6 +7,7 @@ use Rattle.permission_chart.proofs.EachClass.{each_class, found, is_found}
 use Rattle.permission_chart.specs.Names.{IsNameOf, IsClassNamed}
 use Rattle.permit_tables.specs.Text.{class_name}
 use Rattle.scsi_cdb.specs.declared.classes.Class.{Class}
+use Rattle.scsi_cdb.specs.declared.profile.Profile.TheVariants.{Hosts}
 
 -- bytes as one number, the first the lowest
 abbrev number : List ℕ → ℕ
@@ -18,7 +19,7 @@ lowered_number name = number (map to_ascii_lowercase name)
 
 -- the first class whose name has this number
 abbrev with_number : ℕ → Option Class
-with_number n = find (λ c. eqb n (lowered_number (class_name c))) every_class
+with_number n = find (λ c. eqb n (lowered_number (class_name c))) (every_class Hosts)
 
 with_number-class_name : (c : Class) → with_number (lowered_number (class_name c)) ≡ Some c
 with_number-class_name c = found c (with_number (lowered_number (class_name c))) (each_class (λ x. is_found x (with_number (lowered_number (class_name x)))) refl c)

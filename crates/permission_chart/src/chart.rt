@@ -2,9 +2,9 @@ ghost use Rattle.std.specs.Prelude.{◌≡◌, ℕ, Some, IfOk, string_bytes};
 ghost use Rattle.permission_chart.specs.Chart.{chart};
 ghost use Rattle.permission_chart.specs.Classes.{every_class};
 
-use crate::classes::CLASSES;
+use crate::classes::{CLASSES, SHARED_CLASSES};
 use crate::row::Row;
-use scsi_cdb::Class;
+use scsi_cdb::{Class, Profile};
 use std::alloc::{AllocError, Global};
 use std::fmt;
 
@@ -28,11 +28,16 @@ pub struct Chart<'a> {
 }
 
 impl Chart<'static> {
-    /// The chart of all classes, in the order of [`Class`].
-    pub fn whole() -> Chart<'static>
-        ensures { result.classes.now ≡ every_class }
+    /// The chart of all classes of a profile, in the order of [`Class`].
+    pub fn whole(profile: Profile) -> Chart<'static>
+        ensures { result.classes.now ≡ every_class profile }
     {
-        Chart { classes: &CLASSES }
+        match profile {
+            Profile::Spec => Chart {
+                classes: &CLASSES[..SHARED_CLASSES],
+            },
+            Profile::Hosts => Chart { classes: &CLASSES },
+        }
     }
 }
 

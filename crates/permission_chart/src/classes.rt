@@ -3,8 +3,11 @@ ghost use Rattle.permission_chart.specs.Names.{IsClassNamed};
 use permit_tables::class_text;
 use scsi_cdb::Class;
 
-/// Each class of command, in the order of [`Class`].
-pub(crate) const CLASSES: [Class; 31] = [
+/// How many classes both profiles have, the first of [`CLASSES`].
+pub(crate) const SHARED_CLASSES: usize = 31;
+
+/// Each class of command, in the order of [`Class`]. Those that only the hosts' profile has come last.
+pub(crate) const CLASSES: [Class; 38] = [
     Class::TestUnitReady,
     Class::RequestSense,
     Class::Inquiry,
@@ -36,6 +39,13 @@ pub(crate) const CLASSES: [Class; 31] = [
     Class::Release,
     Class::Reserve,
     Class::RegisterAndMove,
+    Class::SendDiagnostic,
+    Class::LogSelect,
+    Class::LogSense,
+    Class::ModeSelect10,
+    Class::ModeSense10,
+    Class::ReportSupportedOperationCodes,
+    Class::ReportSupportedTaskManagementFunctions,
 ];
 
 /// The class that has this name (`class_text`), in either case of letters, if one has.

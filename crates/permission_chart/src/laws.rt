@@ -11,8 +11,8 @@ pub fn worked_rows()
     ensures names { NameRows }
 {}
 
-/// Law: the chart of all classes leaves none out.
-#[tactic(auto, using(crate::proofs::EachClass::every_class_has))]
+/// Law: the chart of a profile leaves none of its classes out, and the default profile's has none that only the hosts' has.
+#[tactic(auto, using(crate::proofs::EachClass::has_each_class))]
 pub fn each_class_has_a_line()
     ensures { HasEachClass }
 {}

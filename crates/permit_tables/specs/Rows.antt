@@ -64,4 +64,15 @@ pub record PermissionRows : Type 0 where
   pub release_other : is_allowed class.Release Wear Other ≡ false
   pub reserve_registered : is_allowed class.Reserve We Registered ≡ false
   pub move_registered : is_allowed class.RegisterAndMove Wero Registered ≡ false
+  -- the classes that only the hosts' profile has
+  pub log_sense_ea : is_allowed class.LogSense Ea Other ≡ true
+  pub log_select_we : is_allowed class.LogSelect We Registered ≡ false
+  pub log_select_earo : is_allowed class.LogSelect Earo Registered ≡ true
+  pub mode_sense_we : is_allowed class.ModeSense10 We Other ≡ true
+  pub mode_sense_ea : is_allowed class.ModeSense10 Ea Registered ≡ false
+  pub mode_select_wear : is_allowed class.ModeSelect10 Wear Other ≡ false
+  pub operation_codes_wero : is_allowed class.ReportSupportedOperationCodes Wero Other ≡ true
+  pub operation_codes_eaar : is_allowed class.ReportSupportedOperationCodes Eaar Other ≡ false
+  pub task_management_ea : is_allowed class.ReportSupportedTaskManagementFunctions Ea Registered ≡ false
+  pub self_test_we : is_allowed class.SendDiagnostic We Other ≡ false
   pub text : cell_text (record { class = class.ModeSense; res_type = Earo; role = Registered }) ≡ codes "MODE-SENSE(6)/EARO/REGISTERED"

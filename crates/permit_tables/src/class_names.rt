@@ -39,5 +39,12 @@ pub fn class_text(class: Class) -> &'static str
         Class::Release => "RELEASE",
         Class::Reserve => "RESERVE",
         Class::RegisterAndMove => "REGISTER-MOVE",
+        Class::SendDiagnostic => "SEND-DIAGNOSTIC",
+        Class::LogSelect => "LOG-SELECT",
+        Class::LogSense => "LOG-SENSE",
+        Class::ModeSelect10 => "MODE-SELECT(10)",
+        Class::ModeSense10 => "MODE-SENSE(10)",
+        Class::ReportSupportedOperationCodes => "REPORT-OPCODES",
+        Class::ReportSupportedTaskManagementFunctions => "REPORT-TASK-MANAGEMENT",
     }
 }

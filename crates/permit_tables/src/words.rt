@@ -41,13 +41,17 @@ pub fn word(class: Class) -> u32
         | Class::ReadPosition
         | Class::ReadElementStatusCurdata
         | Class::Register
-        | Class::RegisterAndIgnoreExistingKey => EVERYBODY,
+        | Class::RegisterAndIgnoreExistingKey
+        | Class::LogSense => EVERYBODY,
         Class::ModeSense
         | Class::Read
         | Class::Space
         | Class::Locate
         | Class::Rewind
-        | Class::ReadElementStatus => READERS,
+        | Class::ReadElementStatus
+        | Class::ModeSense10
+        | Class::ReportSupportedOperationCodes
+        | Class::ReportSupportedTaskManagementFunctions => READERS,
         Class::ModeSelect
         | Class::PreventRemoval
         | Class::Write
@@ -55,7 +59,10 @@ pub fn word(class: Class) -> u32
         | Class::Erase
         | Class::LoadUnload
         | Class::MoveMedium
-        | Class::InitializeElementStatus => WRITERS,
+        | Class::InitializeElementStatus
+        | Class::ModeSelect10
+        | Class::LogSelect
+        | Class::SendDiagnostic => WRITERS,
         Class::Clear | Class::Preempt | Class::PreemptAndAbort | Class::Release => REGISTRANTS,
         Class::Reserve | Class::RegisterAndMove => HOLDERS,
     }

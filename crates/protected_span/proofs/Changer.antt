@@ -5,7 +5,8 @@ use Rattle.std.specs.Prelude.{slice_get, slice_set, if◌then◌else◌}
 use Rattle.std.proofs.lemmas.Map.Views.{exact_unsigned_eq}
 use Rattle.scsi_nexus.specs.declared.nexus.Nexus.{Nexus}
 use Rattle.scsi_sense.specs.declared.status.Status.TheVariants.{Busy}
-use Rattle.device_server.specs.View.{DeviceView, drives_of}
+use Rattle.device_server.specs.View.{DeviceView, commands_of, drives_of}
+use Rattle.device_server.proofs.SameDevice.{same_commands}
 use Rattle.judgement.specs.declared.reply.Reply.{Reply}
 use Rattle.logical_unit.specs.Move.{TwoDrives, route_at, carried_one, carried_two, MovesOne, MovesTwo}
 use Rattle.logical_unit.specs.Route.{named}
@@ -38,10 +39,10 @@ same_command w x y n cdb bytes r q free loose e d =
     (ap (λ (z : UnitView × Reply). z.0) (a ∙ sym b), ap (λ (z : UnitView × Reply). z.1) (a ∙ sym b))
 
 -- the changer's place is no drive's
-pub no_drive : (device : DeviceView) (cdb : List ℕ) (l : ℕ) → named (drives_of device) cdb ≡ l ∷ [] → l ≢ 0
+pub no_drive : (device : DeviceView) (cdb : List ℕ) (l : ℕ) → named (commands_of device) (drives_of device) cdb ≡ l ∷ [] → l ≢ 0
 no_drive device cdb l names e = let w = one_named device cdb l names in absurd (omega (arith, w.0, e))
 
-pub no_drives : (device : DeviceView) (cdb : List ℕ) (l m : ℕ) (more : List ℕ) → named (drives_of device) cdb ≡ l ∷ m ∷ more → (l ≢ 0) × (m ≢ 0)
+pub no_drives : (device : DeviceView) (cdb : List ℕ) (l m : ℕ) (more : List ℕ) → named (commands_of device) (drives_of device) cdb ≡ l ∷ m ∷ more → (l ≢ 0) × (m ≢ 0)
 no_drives device cdb l m more names =
     let w = two_named device cdb l m more names in
     (λ e. absurd (omega (arith, w.0, e)), λ e. absurd (omega (arith, w.1, e)))
@@ -73,11 +74,11 @@ alone_at_two us ms l m c ds n cdb bytes r low high apart far a alone =
 
 -- OF A NEXUS THAT MAY NOT CHANGE what is there: its command to the changer ends there
 module _ (c : UnitView) (n : Nexus) (closed : row_allows Changing (res_type c.state.reservations) (role c.state.reservations n) ≡ false) where
-  alone_with : (us ms : List UnitView) (l : ℕ) (d : Option UnitView) (cdb bytes : List ℕ) (r : Reply) → slice_get us l ≡ d → named (drives_of c.device) cdb ≡ l ∷ [] → MovesWith us c l d n cdb bytes (ms, r) → AtUnit us 0 (Executes c n cdb bytes) (ms, r)
+  alone_with : (us ms : List UnitView) (l : ℕ) (d : Option UnitView) (cdb bytes : List ℕ) (r : Reply) → slice_get us l ≡ d → named (commands_of c.device) (drives_of c.device) cdb ≡ l ∷ [] → MovesWith us c l d n cdb bytes (ms, r) → AtUnit us 0 (Executes c n cdb bytes) (ms, r)
   alone_with us ms l None cdb bytes r there names a = a
   alone_with us ms l (Some d) cdb bytes r there names a = alone_at_one us ms l c d n cdb bytes r there (no_drive c.device cdb l names) a (alone_one c d a.changer a.other n cdb bytes r l [] names closed a.step)
 
-  alone_between : (us ms : List UnitView) (l m : ℕ) (more : List ℕ) (d e : Option UnitView) (cdb bytes : List ℕ) (r : Reply) → slice_get us l ≡ d → slice_get us m ≡ e → named (drives_of c.device) cdb ≡ l ∷ m ∷ more
+  alone_between : (us ms : List UnitView) (l m : ℕ) (more : List ℕ) (d e : Option UnitView) (cdb bytes : List ℕ) (r : Reply) → slice_get us l ≡ d → slice_get us m ≡ e → named (commands_of c.device) (drives_of c.device) cdb ≡ l ∷ m ∷ more
       → MovesBetween us c l m d e n cdb bytes (ms, r) → AtUnit us 0 (Executes c n cdb bytes) (ms, r)
   alone_between us ms l m more None e cdb bytes r there beside names a = a
   alone_between us ms l m more (Some d) None cdb bytes r there beside names a = a
@@ -86,14 +87,14 @@ module _ (c : UnitView) (n : Nexus) (closed : row_allows Changing (res_type c.st
       let ds : TwoDrives = record { low = d; high = e } in
       alone_at_two us ms l m c ds n cdb bytes r there beside apart.0 apart.1 a (alone_two c a.changer ds a.drives n cdb bytes r l (m ∷ more) names closed a.step)
 
-  naming_alone : (us ms : List UnitView) (names : List ℕ) (cdb bytes : List ℕ) (r : Reply) → named (drives_of c.device) cdb ≡ names → CommandsNaming us c names n cdb bytes (ms, r) → AtUnit us 0 (Executes c n cdb bytes) (ms, r)
+  naming_alone : (us ms : List UnitView) (names : List ℕ) (cdb bytes : List ℕ) (r : Reply) → named (commands_of c.device) (drives_of c.device) cdb ≡ names → CommandsNaming us c names n cdb bytes (ms, r) → AtUnit us 0 (Executes c n cdb bytes) (ms, r)
   naming_alone us ms [] cdb bytes r names a = a
   naming_alone us ms (l ∷ []) cdb bytes r names a = alone_with us ms l (slice_get us l) cdb bytes r refl names a
   naming_alone us ms (l ∷ m ∷ more) cdb bytes r names a = alone_between us ms l m more (slice_get us l) (slice_get us m) cdb bytes r refl refl names a
 
   pub alone_at : (us ms : List UnitView) (at : ℕ) (cdb bytes : List ℕ) (r : Reply) → CommandsAt us at (Some c) n cdb bytes (ms, r) → AtUnit us at (Executes c n cdb bytes) (ms, r)
   alone_at us ms (suc k) cdb bytes r a = a
-  alone_at us ms zero cdb bytes r a = naming_alone us ms (named (drives_of c.device) cdb) cdb bytes r refl a
+  alone_at us ms zero cdb bytes r a = naming_alone us ms (named (commands_of c.device) (drives_of c.device) cdb) cdb bytes r refl a
 
 module _ (lun : ℕ) (inside : Nexus → Bool) (exact : Nexus → (cdb bytes : List ℕ) → Bool) (Kept : UnitView → Type 0) (May : Nexus → (cdb bytes : List ℕ) → UnitView → UnitView → Type 0) (Rel : UnitView → UnitView → Type 0)
     (along : IsKeptAlong inside exact Kept May Rel) where
@@ -132,7 +133,7 @@ module _ (lun : ℕ) (inside : Nexus → Bool) (exact : Nexus → (cdb bytes : L
       lists_of {xs} {ys} h i j = subst (λ (zs : List UnitView). Lists lun Rel zs ns) (sym i) (subst (λ (zs : List UnitView). Lists lun Rel xs zs) (sym j) h)
 
   -- A MOVE WITH ONE DRIVE
-  pub one_both : (us ws ms ns : List UnitView) (l : ℕ) (c g d o : UnitView) (n : Nexus) (cdb bytes : List ℕ) (r q : Reply) → Lists lun Rel us ws → slice_get us 0 ≡ Some c → slice_get ws 0 ≡ Some g → slice_get us l ≡ Some d → slice_get ws l ≡ Some o → named (drives_of c.device) cdb ≡ l ∷ []
+  pub one_both : (us ws ms ns : List UnitView) (l : ℕ) (c g d o : UnitView) (n : Nexus) (cdb bytes : List ℕ) (r q : Reply) → Lists lun Rel us ws → slice_get us 0 ≡ Some c → slice_get ws 0 ≡ Some g → slice_get us l ≡ Some d → slice_get ws l ≡ Some o → named (commands_of c.device) (drives_of c.device) cdb ≡ l ∷ []
       → ((0 == lun) ≡ true → inside n ≡ true) → Goes us ms 0 n cdb bytes → r.status ≢ Busy → q.status ≢ Busy → AtDrive us l (MovesOne c d n cdb bytes) (ms, r) → AtDrive ws l (MovesOne g o n cdb bytes) (ns, q)
       → Stepped ms ns (if 0 == lun then exact n cdb bytes else true) (not (0 == lun)) r q
   one_both us ws ms ns l c g d o n cdb bytes r q lists first second low high names is goes free loose a b =
@@ -151,7 +152,7 @@ module _ (lun : ℕ) (inside : Nexus → Bool) (exact : Nexus → (cdb bytes : L
             let alike = along.looks c g (changers.here e) in
             let carried : carried_one c.device d (route_at c cdb) ≡ carried_one g.device o (route_at g cdb) =
             ap (λ (z : UnitView). carried_one c.device z (route_at c cdb)) (drives.away away) ∙ ap (λ (z : DeviceView). carried_one z o (route_at (record c { device = z }) cdb)) alike in
-            let k = along.move_one c a.changer g b.changer n cdb bytes r q o a.other b.other (carried_one c.device d (route_at c cdb)) (carried_one g.device o (route_at g cdb)) (is e) (changers.here e) go.0 (go.1 e) (one_same c d a.changer a.other n cdb bytes r l [] names a.step).0.device.kind carried
+            let k = along.move_one c a.changer g b.changer n cdb bytes r q o a.other b.other (carried_one c.device d (route_at c cdb)) (carried_one g.device o (route_at g cdb)) (is e) (changers.here e) go.0 (go.1 e) (same_commands c.device a.changer.device (one_same c d a.changer a.other n cdb bytes r l [] names a.step).0.device) carried
             (subst (λ (z : UnitView). Ended c a.changer n cdb bytes r z a.other (carried_one c.device d (route_at c cdb))) (drives.away away) x) y in
             record {
               lists = lists_of a b (record { here = λ _. k.0; away = λ no. barred (0 == lun) e no }) (record { here = λ yes. barred (l == lun) yes away; away = λ _. k.2 });
@@ -174,7 +175,7 @@ module _ (lun : ℕ) (inside : Nexus → Bool) (exact : Nexus → (cdb bytes : L
 
   -- A MOVE WITH TWO
   pub two_both : (us ws ms ns : List UnitView) (l m : ℕ) (c g : UnitView) (ds os : TwoDrives) (n : Nexus) (cdb bytes : List ℕ) (r q : Reply) → Lists lun Rel us ws → slice_get us 0 ≡ Some c → slice_get ws 0 ≡ Some g
-      → slice_get us l ≡ Some ds.low → slice_get ws l ≡ Some os.low → slice_get us m ≡ Some ds.high → slice_get ws m ≡ Some os.high → (more : List ℕ) → named (drives_of c.device) cdb ≡ l ∷ m ∷ more
+      → slice_get us l ≡ Some ds.low → slice_get ws l ≡ Some os.low → slice_get us m ≡ Some ds.high → slice_get ws m ≡ Some os.high → (more : List ℕ) → named (commands_of c.device) (drives_of c.device) cdb ≡ l ∷ m ∷ more
       → ((0 == lun) ≡ true → inside n ≡ true) → Goes us ms 0 n cdb bytes → r.status ≢ Busy → q.status ≢ Busy → AtDrives us l m (MovesTwo c ds n cdb bytes) (ms, r) → AtDrives ws l m (MovesTwo g os n cdb bytes) (ns, q)
       → Stepped ms ns (if 0 == lun then exact n cdb bytes else true) (not (0 == lun)) r q
   two_both us ws ms ns l m c g ds os n cdb bytes r q lists first second low low2 high high2 more names is goes free loose a b =
@@ -200,7 +201,7 @@ module _ (lun : ℕ) (inside : Nexus → Bool) (exact : Nexus → (cdb bytes : L
             let alike = along.looks c g (changers.here e) in
             let carried : carried_two c.device ds (route_at c cdb) ≡ carried_two g.device os (route_at g cdb) =
             ap (λ (z : TwoDrives). carried_two c.device z (route_at c cdb)) pair ∙ ap (λ (z : DeviceView). carried_two z os (route_at (record c { device = z }) cdb)) alike in
-            let k = along.move_two c a.changer g b.changer n cdb bytes r q os a.drives b.drives (carried_two c.device ds (route_at c cdb)) (carried_two g.device os (route_at g cdb)) (is e) (changers.here e) go.0 (go.1 e) (two_same c a.changer ds a.drives n cdb bytes r l (m ∷ more) names a.step).0.device.kind carried
+            let k = along.move_two c a.changer g b.changer n cdb bytes r q os a.drives b.drives (carried_two c.device ds (route_at c cdb)) (carried_two g.device os (route_at g cdb)) (is e) (changers.here e) go.0 (go.1 e) (same_commands c.device a.changer.device (two_same c a.changer ds a.drives n cdb bytes r l (m ∷ more) names a.step).0.device) carried
             (subst (λ (z : TwoDrives). Ended c a.changer n cdb bytes r z a.drives (carried_two c.device ds (route_at c cdb))) pair x) y in
             record {
               lists = lists_of a b (record { here = λ _. k.0; away = λ no. barred (0 == lun) e no }) (record { here = λ yes. barred (l == lun) yes away; away = λ _. ap (λ (z : TwoDrives). z.low) k.2 })
@@ -228,7 +229,7 @@ module _ (lun : ℕ) (inside : Nexus → Bool) (exact : Nexus → (cdb bytes : L
           (set_at lun Rel xs ys l a.drives.low b.drives.low (set_at lun Rel us ws 0 a.changer b.changer lists h) k) j))
 
   -- BY THE DRIVES THAT ARE NAMED, which are there in both or in neither
-  with_both : (us ws ms ns : List UnitView) (l : ℕ) (c g : UnitView) (d o : Option UnitView) (n : Nexus) (cdb bytes : List ℕ) (r q : Reply) → Lists lun Rel us ws → slice_get us 0 ≡ Some c → slice_get ws 0 ≡ Some g → slice_get us l ≡ d → slice_get ws l ≡ o → named (drives_of c.device) cdb ≡ l ∷ []
+  with_both : (us ws ms ns : List UnitView) (l : ℕ) (c g : UnitView) (d o : Option UnitView) (n : Nexus) (cdb bytes : List ℕ) (r q : Reply) → Lists lun Rel us ws → slice_get us 0 ≡ Some c → slice_get ws 0 ≡ Some g → slice_get us l ≡ d → slice_get ws l ≡ o → named (commands_of c.device) (drives_of c.device) cdb ≡ l ∷ []
       → ((0 == lun) ≡ true → inside n ≡ true) → Goes us ms 0 n cdb bytes → r.status ≢ Busy → q.status ≢ Busy → MovesWith us c l d n cdb bytes (ms, r) → MovesWith ws g l o n cdb bytes (ns, q)
       → Stepped ms ns (if 0 == lun then exact n cdb bytes else true) (not (0 == lun)) r q
   with_both us ws ms ns l c g None None n cdb bytes r q lists first second low high apart is goes free loose a b = alone_both us ws ms ns 0 c g n cdb bytes r q lists first second is goes free loose a b
@@ -237,7 +238,7 @@ module _ (lun : ℕ) (inside : Nexus → Bool) (exact : Nexus → (cdb bytes : L
   with_both us ws ms ns l c g (Some d) None n cdb bytes r q lists first second low high apart is goes free loose a b = absurd (at_place lun Rel us ws l (Some d) None low high lists)
 
   between_both : (us ws ms ns : List UnitView) (l m : ℕ) (c g : UnitView) (d e o p : Option UnitView) (n : Nexus) (cdb bytes : List ℕ) (r q : Reply) → Lists lun Rel us ws → slice_get us 0 ≡ Some c → slice_get ws 0 ≡ Some g
-      → slice_get us l ≡ d → slice_get us m ≡ e → slice_get ws l ≡ o → slice_get ws m ≡ p → BothAt lun Rel l d o → BothAt lun Rel m e p → (more : List ℕ) → named (drives_of c.device) cdb ≡ l ∷ m ∷ more
+      → slice_get us l ≡ d → slice_get us m ≡ e → slice_get ws l ≡ o → slice_get ws m ≡ p → BothAt lun Rel l d o → BothAt lun Rel m e p → (more : List ℕ) → named (commands_of c.device) (drives_of c.device) cdb ≡ l ∷ m ∷ more
       → ((0 == lun) ≡ true → inside n ≡ true) → Goes us ms 0 n cdb bytes → r.status ≢ Busy → q.status ≢ Busy → MovesBetween us c l m d e n cdb bytes (ms, r) → MovesBetween ws g l m o p n cdb bytes (ns, q)
       → Stepped ms ns (if 0 == lun then exact n cdb bytes else true) (not (0 == lun)) r q
   between_both us ws ms ns l m c g (Some d) (Some e) (Some o) (Some p) n cdb bytes r q lists first second low high low2 high2 lows highs more names is goes free loose a b =
@@ -249,7 +250,7 @@ module _ (lun : ℕ) (inside : Nexus → Bool) (exact : Nexus → (cdb bytes : L
   between_both us ws ms ns l m c g (Some d) None (Some o) (Some p) n cdb bytes r q lists first second low high low2 high2 lows highs more names is goes free loose a b = absurd highs
   between_both us ws ms ns l m c g (Some d) (Some e) (Some o) None n cdb bytes r q lists first second low high low2 high2 lows highs more names is goes free loose a b = absurd highs
 
-  pub naming_both : (us ws ms ns : List UnitView) (names : List ℕ) (c g : UnitView) (n : Nexus) (cdb bytes : List ℕ) (r q : Reply) → Lists lun Rel us ws → slice_get us 0 ≡ Some c → slice_get ws 0 ≡ Some g → named (drives_of c.device) cdb ≡ names
+  pub naming_both : (us ws ms ns : List UnitView) (names : List ℕ) (c g : UnitView) (n : Nexus) (cdb bytes : List ℕ) (r q : Reply) → Lists lun Rel us ws → slice_get us 0 ≡ Some c → slice_get ws 0 ≡ Some g → named (commands_of c.device) (drives_of c.device) cdb ≡ names
       → ((0 == lun) ≡ true → inside n ≡ true) → Goes us ms 0 n cdb bytes → r.status ≢ Busy → q.status ≢ Busy → CommandsNaming us c names n cdb bytes (ms, r) → CommandsNaming ws g names n cdb bytes (ns, q)
       → Stepped ms ns (if 0 == lun then exact n cdb bytes else true) (not (0 == lun)) r q
   naming_both us ws ms ns [] c g n cdb bytes r q lists first second names is goes free loose a b = alone_both us ws ms ns 0 c g n cdb bytes r q lists first second is goes free loose a b

@@ -17,7 +17,7 @@ use Rattle.pr_core.proofs.KeyLaws.{proper-after}
 use Rattle.pr_core.proofs.RoomForKeys.{room}
 use Rattle.audit_log.specs.declared.stage.Stage.TheVariants as stage
 use Rattle.audit_log.specs.declared.stage.Stage.TheVariants.{ResetAttention, OtherAttention, Fields}
-use Rattle.device_server.specs.View.{kind_of, field_fault, performed}
+use Rattle.device_server.specs.View.{commands_of, field_fault, performed}
 use Rattle.judgement.specs.declared.command.Command.{Command}
 use Rattle.judgement.specs.declared.command.Command.TheVariants.{ReserveOut, ReserveIn, Inquiry, ReportLuns, RequestSense, Prevent, Device}
 use Rattle.judgement.specs.declared.decision.Decision.{Decision}
@@ -29,7 +29,7 @@ use Rattle.judgement.specs.Replies.{good}
 use Rattle.judgement.specs.Commands.{decoded_command}
 use Rattle.judgement.specs.JudgedUnit.{JudgedUnit}
 use Rattle.logical_unit.specs.UnitView.{UnitView}
-use Rattle.judgement.specs.UnitState.{accepted, is_prevented, after_mode}
+use Rattle.judgement.specs.UnitState.{accepted, is_prevented, after_telling}
 use Rattle.judgement.specs.Readings.{verdict_of, pending_of}
 use Rattle.judgement.specs.Judge.{sensed, steps, unloads, performs, judged_as}
 use Rattle.judgement.specs.Judge.{carried_out}
@@ -61,13 +61,13 @@ module _ (u : JudgedUnit) (n : Nexus) where
   prevents_changes false true = inl refl
   prevents_changes false false = inl refl
 
-  mode_changes : (b : Bool) → Change u.state.reservations n (after_mode u.state n b).reservations
-  mode_changes true = inl refl
-  mode_changes false = inl refl
+  telling_changes : (told : Option Kind) → Change u.state.reservations n (after_telling u.state n told).reservations
+  telling_changes None = inl refl
+  telling_changes (Some kind) = inl refl
 
   steps_changes : (r : Request) (bytes : List ℕ) (b : Bool) → Changes (cond b (u, at_stage stage.Device, check MediumRemovalPrevented) (steps u n (performed u.device r bytes)))
   steps_changes r bytes true = inl refl
-  steps_changes r bytes false = mode_changes (performed u.device r bytes).1.mode_changed
+  steps_changes r bytes false = telling_changes (performed u.device r bytes).1.told
 
   performs_changes : (r : Request) (bytes : List ℕ) → Changes (performs u n r bytes)
   performs_changes r bytes =
@@ -97,7 +97,7 @@ module _ (u : JudgedUnit) (n : Nexus) where
 pub executes_changes : (u v : UnitView) (n : Nexus) (cdb bytes : List ℕ) (r : Reply) → Executes u n cdb bytes (v, r) → Change u.state.reservations n v.state.reservations
 executes_changes u v n cdb bytes r (inl e) = inl (ap (λ (x : UnitView × Reply). x.0.state.reservations) e)
 executes_changes u v n cdb bytes r (inr e) =
-    subst (λ (x : UnitView × Reply). Change u.state.reservations n x.0.state.reservations) (sym e.2) (judged_changes (contacted_present u n) n (decoded_command (kind_of u.device) cdb bytes) bytes)
+    subst (λ (x : UnitView × Reply). Change u.state.reservations n x.0.state.reservations) (sym e.2) (judged_changes (contacted_present u n) n (decoded_command (commands_of u.device) cdb bytes) bytes)
 
 table_after : (v : State) (n : Nexus) (p : OutParams) → IsTable v → verdict v n p ≡ Allowed → refusal v n p ≡ None → IsTable (applied v n p)
 table_after v n p t allowed free =

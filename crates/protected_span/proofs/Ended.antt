@@ -4,7 +4,7 @@ use Rattle.std.specs.Prelude.{◌⊎◌}
 use Rattle.scsi_nexus.specs.declared.nexus.Nexus.{Nexus}
 use Rattle.scsi_sense.specs.declared.condition.Condition.{Condition}
 use Rattle.scsi_sense.specs.declared.status.Status.TheVariants.{Busy}
-use Rattle.device_server.specs.View.{DeviceView, kind_of}
+use Rattle.device_server.specs.View.{DeviceView, commands_of}
 use Rattle.judgement.specs.JudgedUnit.{JudgedUnit}
 use Rattle.judgement.specs.declared.decision.Decision.{Decision}
 use Rattle.judgement.specs.declared.reply.Reply.{Reply}
@@ -43,15 +43,15 @@ MovesBy c n cdb bytes drives carried Numbers new =
 pub record Ended {A : Type 0} (c v : UnitView) (n : Nexus) (cdb bytes : List ℕ) (r : Reply) (drives after : A) (carried : Result (DeviceView × A) Condition) : Type 0 where
   pub room : has_room c.state n ≡ true
   pub number : HasNumber c
-  pub unit : (v, r) ≡ recorded c n (act_of (kind_of c.device) cdb bytes) (end_answer (is_left (judged_at c n cdb bytes).2.sense) (judged_at c n cdb bytes) carried)
+  pub unit : (v, r) ≡ recorded c n (act_of (commands_of c.device) cdb bytes) (end_answer (is_left (judged_at c n cdb bytes).2.sense) (judged_at c n cdb bytes) carried)
   pub drives_are : after ≡ end_drives (is_left (judged_at c n cdb bytes).2.sense) drives carried
 
 module _ {A : Type 0} (c : UnitView) (n : Nexus) (cdb bytes : List ℕ) (drives : A) (answer : JudgedUnit × Decision × Reply) where
   abbrev pub end_of : Bool → Result (DeviceView × A) Condition → (UnitView × Reply) × A
-  end_of b carried = (recorded c n (act_of (kind_of c.device) cdb bytes) (end_answer b answer carried), end_drives b drives carried)
+  end_of b carried = (recorded c n (act_of (commands_of c.device) cdb bytes) (end_answer b answer carried), end_drives b drives carried)
 
   concluded_by : (b : Bool) (carried : Result (DeviceView × A) Condition)
-      → ◌≡◌ {A = (UnitView × Reply) × A} (cond b (ended c n cdb bytes drives answer carried) (recorded c n (act_of (kind_of c.device) cdb bytes) answer, drives)) (end_of b carried)
+      → ◌≡◌ {A = (UnitView × Reply) × A} (cond b (ended c n cdb bytes drives answer carried) (recorded c n (act_of (commands_of c.device) cdb bytes) answer, drives)) (end_of b carried)
   concluded_by true (Ok it) = refl
   concluded_by true (Err condition) = refl
   concluded_by false carried = refl
@@ -96,7 +96,7 @@ ended_kept c v n cdb bytes r drives after carried e = ap (λ (x : UnitView × Re
 
 pub ended_changes : {A : Type 0} (c v : UnitView) (n : Nexus) (cdb bytes : List ℕ) (r : Reply) (drives after : A) (carried : Result (DeviceView × A) Condition) → Ended c v n cdb bytes r drives after carried → Change c.state.reservations n v.state.reservations
 ended_changes c v n cdb bytes r drives after carried e =
-    subst (λ (k : UnitStateView). Change c.state.reservations n k.reservations) (sym (ended_kept c v n cdb bytes r drives after carried e)) (judged_changes (contacted_present c n) n (decoded_command (kind_of c.device) cdb bytes) bytes)
+    subst (λ (k : UnitStateView). Change c.state.reservations n k.reservations) (sym (ended_kept c v n cdb bytes r drives after carried e)) (judged_changes (contacted_present c n) n (decoded_command (commands_of c.device) cdb bytes) bytes)
 
 -- AT THE SAME CHANGER, with drives that are related
 module _ {A : Type 0} (Q : A → A → Type 0) where
@@ -118,7 +118,7 @@ module _ {A : Type 0} (Q : A → A → Type 0) where
       let answer = judged_at c n cdb bytes in
       let left = is_left answer.2.sense in
       let ends = same_ends left answer d e x y related alike in
-      let is = a.unit ∙ ap (λ (z : JudgedUnit × Decision × Reply). recorded c n (act_of (kind_of c.device) cdb bytes) z) ends.0 ∙ sym b.unit in
+      let is = a.unit ∙ ap (λ (z : JudgedUnit × Decision × Reply). recorded c n (act_of (commands_of c.device) cdb bytes) z) ends.0 ∙ sym b.unit in
       record {
         unit = ap (λ (z : UnitView × Reply). z.0) is;
         reply = ap (λ (z : UnitView × Reply). z.1) is;

@@ -10,7 +10,6 @@ use Rattle.scsi_nexus.specs.Order.{same_nexus}
 use Rattle.scsi_sense.specs.declared.condition.Condition.{Condition}
 use Rattle.scsi_sense.specs.declared.condition.Condition.TheVariants.{MediumRemovalPrevented}
 use Rattle.unit_attention.specs.declared.kind.Kind.{Kind}
-use Rattle.unit_attention.specs.declared.kind.Kind.TheVariants.{ModeParametersChanged}
 use Rattle.unit_attention.specs.Pending.{without_kind, oldest_reset, oldest_other}
 use Rattle.unit_attention.specs.Queues.{Slots, slot_of, first_reset_of, first_other_of}
 use Rattle.permit_tables.specs.declared.cell.Cell.{Cell}
@@ -35,7 +34,7 @@ use Rattle.judgement.specs.Replies.{conflict, check}
 use Rattle.judgement.specs.Replies.{good}
 use Rattle.judgement.specs.Commands.{class_of_command}
 use Rattle.judgement.specs.JudgedUnit.{JudgedUnit}
-use Rattle.judgement.specs.UnitState.{accepted, is_prevented, preventers_after, after_mode}
+use Rattle.judgement.specs.UnitState.{accepted, is_prevented, preventers_after, after_telling}
 use Rattle.unit_attention.specs.Queues.{all_raised}
 use Rattle.judgement.specs.Judge.{cell_of, tells, carried_out, commanded}
 use Rattle.judgement.specs.Readings.{verdict_of, status_data, pending_of}
@@ -158,20 +157,20 @@ module _ (inside : Nexus → Bool) where
     }
     prevents_both at to false false = same_both _ _ _
 
-    mode_both : (b : Bool) → Alike inside (after_mode f.state n b) (after_mode other.state n b)
-    mode_both true = record { lun = refl; units = refl; slots = λ m within. raised_for_others-alike f.state.slots r n m ModeParametersChanged (slots m within); preventers = refl; own = own }
-    mode_both false = alike
+    telling_both : (told : Option Kind) → Alike inside (after_telling f.state n told) (after_telling other.state n told)
+    telling_both None = alike
+    telling_both (Some kind) = record { lun = refl; units = refl; slots = λ m within. raised_for_others-alike f.state.slots r n m kind (slots m within); preventers = refl; own = own }
 
-    mode_reservations : (b : Bool) → R (after_mode f.state n b).reservations (after_mode other.state n b).reservations
-    mode_reservations true = related
-    mode_reservations false = related
+    telling_reservations : (told : Option Kind) → R (after_telling f.state n told).reservations (after_telling other.state n told).reservations
+    telling_reservations None = related
+    telling_reservations (Some kind) = related
 
     steps_both : (at to : Cell) (req : Request) (bytes : List ℕ) (b : Bool)
         → Both (at_cell at (cond b (f, at_stage stage.Device, check MediumRemovalPrevented) (steps f n (performed f.device req bytes)))) (at_cell to (cond b (other, at_stage stage.Device, check MediumRemovalPrevented) (steps other n (performed f.device req bytes))))
     steps_both at to req bytes true = same_both _ _ _
     steps_both at to req bytes false =
-        let changed = (performed f.device req bytes).1.mode_changed in
-        record { device = refl; state = mode_both changed; reply = says-refl exact _; reservations = λ _. mode_reservations changed }
+        let told = (performed f.device req bytes).1.told in
+        record { device = refl; state = telling_both told; reply = says-refl exact _; reservations = λ _. telling_reservations told }
 
     performs_both : (at to : Cell) (req : Request) (bytes : List ℕ) → Both (at_cell at (performs f n req bytes)) (at_cell to (performs other n req bytes))
     performs_both at to req bytes =

@@ -5,7 +5,7 @@ use Rattle.scsi_sense.specs.declared.condition.Condition.{Condition}
 use Rattle.scsi_sense.specs.declared.status.Status.TheVariants.{Busy}
 use Rattle.permit_tables.specs.Permission.{Changing, row_allows}
 use Rattle.pr_core.specs.State.{res_type, role}
-use Rattle.device_server.specs.View.{DeviceView, kind_of}
+use Rattle.device_server.specs.View.{DeviceView, commands_of}
 use Rattle.judgement.specs.declared.reply.Reply.{Reply}
 use Rattle.logical_unit.specs.Move.{TwoDrives, judged_at}
 use Rattle.logical_unit.specs.Step.{Executes, IsLost, IsReset}
@@ -19,7 +19,7 @@ module _ (inside : Nexus → Bool) (exact : Nexus → (cdb bytes : List ℕ) →
   abbrev pub KeepsMoves : Type 0 → Type 0
   KeepsMoves A =
       (f v g w : UnitView) (n : Nexus) (cdb bytes : List ℕ) (r q : Reply) (drives after other : A) (x y : Result (DeviceView × A) Condition) → inside n ≡ true → Rel f g → Kept v → May n cdb bytes f v
-      → kind_of v.device ≡ kind_of f.device → x ≡ y
+      → commands_of v.device ≡ commands_of f.device → x ≡ y
       → Ended f v n cdb bytes r drives after x → Ended g w n cdb bytes q drives other y → Rel v w × SameReply (exact n cdb bytes) false r q × (after ≡ other)
 
   pub record IsKeptAlong : Type 0 where

@@ -34,7 +34,7 @@ use Rattle.judgement.specs.Replies.{check}
 use Rattle.judgement.specs.Replies.{good}
 use Rattle.judgement.specs.Commands.{class_of_command}
 use Rattle.judgement.specs.JudgedUnit.{JudgedUnit}
-use Rattle.judgement.specs.UnitState.{accepted, is_prevented, preventers_after, after_mode}
+use Rattle.judgement.specs.UnitState.{accepted, is_prevented, preventers_after, after_telling}
 use Rattle.judgement.specs.Judge.{cell_of, tells, carried_out}
 use Rattle.judgement.specs.Readings.{verdict_of, pending_of}
 use Rattle.judgement.specs.Judge.{sensed, steps, unloads, performs, at_cell, judged_as}
@@ -122,15 +122,15 @@ module _ (inside : Nexus → Bool) where
         barred _ (subst (λ b. row_allows (group_of (cond b AllowRemoval PreventRemoval)) (res_type u.state.reservations) (role u.state.reservations n) ≡ true) e lets) shut.changing
     prevents_leaves prevent false false e lets g = left_same u
 
-    mode_leaves : (d : DeviceView) (b : Bool) → d ≡ u.device → b ≡ false → Left u (record { device = d; state = after_mode u.state n b })
-    mode_leaves d true e f = cc
-    mode_leaves d false e f = record { device = e; lun = refl; units = refl; slots = λ m is. refl; preventers = refl }
+    telling_leaves : (d : DeviceView) (told : Option Kind) → d ≡ u.device → told ≡ None → Left u (record { device = d; state = after_telling u.state n told })
+    telling_leaves d (Some kind) e f = cc
+    telling_leaves d None e f = record { device = e; lun = refl; units = refl; slots = λ m is. refl; preventers = refl }
 
     steps_leaves : (at : Cell) (r : Request) (bytes : List ℕ) (b : Bool) → Lets (class_of r) → Leaves (at_cell at (cond b (u, at_stage stage.Device, check MediumRemovalPrevented) (steps u n (performed u.device r bytes))))
     steps_leaves at r bytes true lets g = left_same u
     steps_leaves at r bytes false lets g =
         let q = performed_quiet (res_type u.state.reservations) (role u.state.reservations n) shut u.device r bytes lets in
-        mode_leaves (performed u.device r bytes).0 (performed u.device r bytes).1.mode_changed q.same q.steady
+        telling_leaves (performed u.device r bytes).0 (performed u.device r bytes).1.told q.same q.steady
 
     performs_leaves : (at : Cell) (r : Request) (bytes : List ℕ) → Lets (class_of r) → Leaves (at_cell at (performs u n r bytes))
     performs_leaves at r bytes lets =

@@ -20,7 +20,7 @@ use Rattle.pr_core.proofs.KeyLaws.{proper-power_on}
 use Rattle.unit_laws.proofs.CommandLaws.{holder_is_registered}
 use Rattle.tape_medium.specs.declared.volume.Volume.{Volume}
 use Rattle.audit_log.specs.declared.record.Record.{Record}
-use Rattle.device_server.specs.View.{DeviceView, drives_of}
+use Rattle.device_server.specs.View.{DeviceView, commands_of, drives_of}
 use Rattle.judgement.specs.declared.reply.Reply.{Reply}
 use Rattle.logical_unit.specs.Medium.{taken_out, put_in}
 use Rattle.logical_unit.specs.Move.{TwoDrives, is_left, judged_at, route_at, carried_one, carried_two, MovesOne, MovesTwo}
@@ -229,7 +229,7 @@ naming_reaches us ms (l ∷ m ∷ more) c n cdb bytes r first h a = between_reac
 command_reaches : (us ms : List UnitView) (at : ℕ) (o : Option UnitView) (n : Nexus) (cdb bytes : List ℕ) (r : Reply) → slice_get us at ≡ o → AreReached us → CommandsAt us at o n cdb bytes (ms, r) → AreReached ms
 command_reaches us ms at None n cdb bytes r here h a = are us ms a.0 h
 command_reaches us ms (suc k) (Some x) n cdb bytes r here h a = alone_reaches us ms (suc k) x n cdb bytes r here h a
-command_reaches us ms zero (Some x) n cdb bytes r here h a = naming_reaches us ms (named (drives_of x.device) cdb) x n cdb bytes r here h a
+command_reaches us ms zero (Some x) n cdb bytes r here h a = naming_reaches us ms (named (commands_of x.device) (drives_of x.device) cdb) x n cdb bytes r here h a
 
 lost_reaches : (us ms : List UnitView) (at : ℕ) (o : Option UnitView) (n : Nexus) (r : Reply) → slice_get us at ≡ o → AreReached us → LosesAt us at o n (ms, r) → AreReached ms
 lost_reaches us ms at None n r here h a = are us ms (ap (λ (x : List UnitView × Reply). x.0) a) h

@@ -9,7 +9,7 @@ use Rattle.unit_attention.specs.declared.kind.Kind.TheVariants.{NexusLoss}
 use Rattle.unit_attention.specs.Pending.{with_kind}
 use Rattle.unit_attention.specs.Queues.{has_slot, contacted}
 use Rattle.audit_log.specs.declared.record.Record.{Record}
-use Rattle.device_server.specs.View.{kind_of}
+use Rattle.device_server.specs.View.{commands_of}
 use Rattle.judgement.specs.declared.reply.Reply.{Reply}
 use Rattle.judgement.specs.Commands.{decoded_command}
 use Rattle.judgement.specs.Replies.{busy}
@@ -32,7 +32,7 @@ pub record Roomy (f g : UnitView) : Type 0 where
 
 -- a command's contact, record by record
 pub answered_shape : (u : UnitView) (n : Nexus) (cdb bytes : List ℕ) → T (is_sorted nexus_cmp u.state.slots) → Shape (contacted u.state.slots n) (answered u n cdb bytes).0.state.slots
-answered_shape u n cdb bytes s = judged_shape (contacted_present u n) n (sorted-contacted u.state.slots n s) (decoded_command (kind_of u.device) cdb bytes) bytes
+answered_shape u n cdb bytes s = judged_shape (contacted_present u n) n (sorted-contacted u.state.slots n s) (decoded_command (commands_of u.device) cdb bytes) bytes
 
 pub one_more : (base : ℕ) (es : List Record) (e : Record) → base + length (es ++ e ∷ []) ≡ base + length es + 1
 one_more base es e = let h = length-append es (e ∷ []) in omega (arith, h)

@@ -9,17 +9,18 @@ use Rattle.arrayvec.specs.ArrayVec.{ArrayVec}
 use Rattle.scsi_cdb.specs.Commands as cdb
 use Rattle.tape_medium.specs.declared.volume.VolumeTag.{VolumeTag}
 use Rattle.pr_core.specs.State.{keys_after}
+use Rattle.device_server.specs.View.{profile_of}
 use Rattle.protected_span.specs.Rows.{a, WorkedSpan, StruckOut, ConditionsAreNeeded, ConditionsSay, MayNot, Contents}
 
 pub worked_span : (tag : VolumeTag) → WorkedSpan tag
-unfolding cdb.command_of keys_after
+unfolding cdb.command_of profile_of keys_after
 worked_span tag = record { all = refl; alone = refl; data_beside = refl; data_alone = refl; device_beside = refl; device_alone = refl; beside = refl }
 
 pub struck_out : (cdb : ArrayVec ℕ) (bytes : Vec ℕ) → StruckOut cdb bytes
 struck_out cdb bytes = record { commands = refl; others = refl }
 
 pub needed : (tag : VolumeTag) → ConditionsAreNeeded tag
-unfolding cdb.command_of keys_after
+unfolding cdb.command_of profile_of keys_after
 needed tag = record {
   preempt_beside = refl;
   preempt_alone = refl;

@@ -6,7 +6,7 @@ use Rattle.scsi_nexus.specs.declared.nexus.Nexus.{Nexus}
 use Rattle.scsi_sense.specs.declared.condition.Condition.{Condition}
 use Rattle.scsi_sense.specs.declared.status.Status.TheVariants.{Busy}
 use Rattle.unit_attention.specs.Queues.{has_slot}
-use Rattle.device_server.specs.View.{DeviceView, kind_of, drives_of}
+use Rattle.device_server.specs.View.{DeviceView, commands_of, drives_of}
 use Rattle.judgement.proofs.Carried.{judged_free}
 use Rattle.judgement.specs.declared.reply.Reply.{Reply}
 use Rattle.judgement.specs.Commands.{decoded_command}
@@ -41,7 +41,7 @@ concluded_free : {A : Type 0} (c : UnitView) (n : Nexus) (cdb bytes : List ℕ) 
 concluded_free {A} c n cdb bytes drives carried =
     let answer = judged_at c n cdb bytes in
     subst (λ (x : (UnitView × Reply) × A). x.0.1.status ≢ Busy) (sym (concluded_is c n cdb bytes drives answer carried))
-    (end_free c n cdb bytes drives answer (is_left answer.2.sense) carried (judged_free (contacted_present c n) n (decoded_command (kind_of c.device) cdb bytes) bytes))
+    (end_free c n cdb bytes drives answer (is_left answer.2.sense) carried (judged_free (contacted_present c n) n (decoded_command (commands_of c.device) cdb bytes) bytes))
 
 -- the drives of a carried volume have numbers in the other run
 numbers_too : {A B : Type 0} (a b : Bool) (x : Result A Condition) (y : Result B Condition) (N M : Type 0) → a ≡ b → is_ok x ≡ is_ok y → ((a && is_ok x) ≡ true → N) → (N → M) → (b && is_ok y) ≡ true → M
@@ -201,7 +201,7 @@ module _ (lun : ℕ) (inside : Nexus → Bool) (exact : Nexus → (cdb bytes : L
   between_next us ws ms l m c g (Some d) None (Some o) (Some p) n cdb bytes r first changers lows highs apart far is goes free a = absurd highs
   between_next us ws ms l m c g (Some d) (Some e) (Some o) None n cdb bytes r first changers lows highs apart far is goes free a = absurd highs
 
-  naming_next : (us ws ms : List UnitView) (names : List ℕ) (c g : UnitView) (n : Nexus) (cdb bytes : List ℕ) (r : Reply) → L us ws → slice_get us 0 ≡ Some c → At lun R 0 c g → named (drives_of c.device) cdb ≡ names → ((0 == lun) ≡ true → inside n ≡ true)
+  naming_next : (us ws ms : List UnitView) (names : List ℕ) (c g : UnitView) (n : Nexus) (cdb bytes : List ℕ) (r : Reply) → L us ws → slice_get us 0 ≡ Some c → At lun R 0 c g → named (commands_of c.device) (drives_of c.device) cdb ≡ names → ((0 == lun) ≡ true → inside n ≡ true)
       → GoesOn us ms 0 n cdb bytes → r.status ≢ Busy → CommandsNaming us c names n cdb bytes (ms, r) → NextAs (CommandsNaming ws g names n cdb bytes)
   naming_next us ws ms [] c g n cdb bytes r lists first changers names is goes free a = alone_next us ws ms 0 c g n cdb bytes r changers is free a
   naming_next us ws ms (l ∷ []) c g n cdb bytes r lists first changers names is goes free a =
@@ -218,11 +218,11 @@ module _ (lun : ℕ) (inside : Nexus → Bool) (exact : Nexus → (cdb bytes : L
   command_next us ws ms at (Some x) None n cdb bytes r l here both is goes free a = absurd both
   command_next us ws ms (suc k) (Some x) (Some y) n cdb bytes r l here both is goes free a = alone_next us ws ms (suc k) x y n cdb bytes r both is free a
   command_next us ws ms zero (Some x) (Some y) n cdb bytes r l here both is goes free a =
-      let it = naming_next us ws ms (named (drives_of x.device) cdb) x y n cdb bytes r l here both refl is goes free a in
+      let it = naming_next us ws ms (named (commands_of x.device) (drives_of x.device) cdb) x y n cdb bytes r l here both refl is goes free a in
       record {
         units = it.units;
         reply = it.reply;
-        step = subst (λ (d : DeviceView). CommandsNaming ws y (named (drives_of d) cdb) n cdb bytes (it.units, it.reply)) (looks_at lun inside exact Kept May R along 0 x y both) it.step;
+        step = subst (λ (d : DeviceView). CommandsNaming ws y (named (commands_of d) (drives_of d) cdb) n cdb bytes (it.units, it.reply)) (looks_at lun inside exact Kept May R along 0 x y both) it.step;
         served = it.served;
       }
 

@@ -8,7 +8,6 @@ use Rattle.scsi_nexus.specs.Order.{nexus_cmp, same_nexus}
 use Rattle.scsi_sense.specs.declared.condition.Condition.{Condition}
 use Rattle.scsi_sense.specs.declared.condition.Condition.TheVariants.{MediumRemovalPrevented}
 use Rattle.unit_attention.specs.declared.kind.Kind.{Kind}
-use Rattle.unit_attention.specs.declared.kind.Kind.TheVariants.{ModeParametersChanged}
 use Rattle.unit_attention.specs.Pending.{with_kind, without_kind}
 use Rattle.unit_attention.specs.Queues.{Slots, has_slot, with_change, raised, was_reset}
 use Rattle.unit_attention.proofs.SlotLemmas.{sorted-change}
@@ -26,7 +25,7 @@ use Rattle.judgement.specs.Decisions.{at_stage}
 use Rattle.judgement.specs.Replies.{check}
 use Rattle.judgement.specs.Replies.{good}
 use Rattle.judgement.specs.JudgedUnit.{JudgedUnit}
-use Rattle.judgement.specs.UnitState.{accepted, is_prevented, after_mode}
+use Rattle.judgement.specs.UnitState.{accepted, is_prevented, after_telling}
 use Rattle.unit_attention.specs.Queues.{all_raised}
 use Rattle.judgement.specs.UnitState.{with_slots, raised_for_all}
 use Rattle.judgement.specs.Readings.{pending_of}
@@ -99,13 +98,13 @@ module _ (u : JudgedUnit) (n : Nexus) (s : T (is_sorted nexus_cmp u.state.slots)
   prevents_keeps false true = self
   prevents_keeps false false = self
 
-  mode_keeps : (b : Bool) → Shape u.state.slots (after_mode u.state n b).slots
-  mode_keeps true = told-shape n ModeParametersChanged (with_slots u.state.slots) u.state.slots s
-  mode_keeps false = self
+  telling_keeps : (told : Option Kind) → Shape u.state.slots (after_telling u.state n told).slots
+  telling_keeps None = self
+  telling_keeps (Some kind) = told-shape n kind (with_slots u.state.slots) u.state.slots s
 
   steps_keeps : (r : Request) (bytes : List ℕ) (b : Bool) → Keeps (cond b (u, at_stage stage.Device, check MediumRemovalPrevented) (steps u n (performed u.device r bytes)))
   steps_keeps r bytes true = self
-  steps_keeps r bytes false = mode_keeps (performed u.device r bytes).1.mode_changed
+  steps_keeps r bytes false = telling_keeps (performed u.device r bytes).1.told
 
   performs_keeps : (r : Request) (bytes : List ℕ) → Keeps (performs u n r bytes)
   performs_keeps r bytes =

@@ -1,7 +1,7 @@
 -- The two spans.
 use Rattle.std.proofs.Common.{◌≡◌, ◌≢◌, ℕ, Bool, true, false, not, List, [], ◌∷◌, Some, Result, Ok, inl, inr, refl, sym, ap, ◌∙◌, subst}
 use Rattle.std.specs.Prelude.{slice_get, take, if◌then◌else◌}
-use Rattle.scsi_cdb.specs.declared.kind.Kind.{Kind}
+use Rattle.scsi_cdb.specs.declared.profile.CommandSet.{CommandSet}
 use Rattle.scsi_nexus.specs.declared.nexus.Nexus.{Nexus}
 use Rattle.scsi_nexus.proofs.NexusLaws.{same_nexus-true}
 use Rattle.scsi_sense.specs.declared.condition.Condition.{Condition}
@@ -12,7 +12,7 @@ use Rattle.pr_core.specs.Outcome.{applied}
 use Rattle.pr_core.specs.State.{State, cell, res_type, role}
 use Rattle.pr_core.specs.declared.verdict.Verdict.TheVariants.{Allowed, Denied}
 use Rattle.unit_attention.specs.Queues.{has_slot}
-use Rattle.device_server.specs.View.{kind_of}
+use Rattle.device_server.specs.View.{commands_of, reset_of}
 use Rattle.judgement.specs.declared.command.Command.{Command}
 use Rattle.judgement.specs.declared.command.Command.TheVariants.{ReserveOut, ReserveIn, Inquiry, ReportLuns, RequestSense, Prevent, Device}
 use Rattle.judgement.specs.declared.reply.Reply.{Reply}
@@ -22,7 +22,7 @@ use Rattle.judgement.specs.Readings.{verdict_of, status_data}
 use Rattle.logical_unit.specs.Step.{Executes}
 use Rattle.logical_unit.specs.UnitView.{UnitView}
 use Rattle.logical_unit.proofs.History.{executes_stays}
-use Rattle.device_server.proofs.SameDevice.{reset_same}
+use Rattle.device_server.proofs.SameDevice.{same_commands, reset_same}
 use Rattle.target_core.proofs.Places.{same_some}
 use Rattle.target_core.specs.declared.event.Event.{Event}
 use Rattle.target_core.specs.Run.{Runs}
@@ -37,7 +37,7 @@ use Rattle.protected_span.proofs.Group as group
 use Rattle.protected_span.proofs.Units.{Beside, Fits, answers, strike_unit, both_units, judged_beside, loss_units, reset_units, loss_is, lost_device, reset_is}
 use Rattle.std.specs.List.{list_all}
 use Rattle.scsi_sense.specs.declared.condition.Condition.{Condition}
-use Rattle.device_server.specs.View.{DeviceView}
+use Rattle.device_server.specs.View.{DeviceView, commands_of}
 use Rattle.logical_unit.specs.Move.{judged_at, IsSameUnit}
 use Rattle.protected_span.proofs.KeptByEachStep.{KeepsMoves, IsKeptAlong}
 use Rattle.protected_span.proofs.Ended.{Ended, ended_changes, move_units, same_sense}
@@ -51,7 +51,7 @@ ends_alike lun vs ws f g here there device rest = record {
   others = λ k apart. rest k (λ e. apart (sym e));
 }
 
-module _ (h : Nexus) (kind : Kind) where
+module _ (h : Nexus) (commands : CommandSet) where
   -- reservations that h sees alike, each with its table
   pub record Tables (v w : State) : Type 0 where
     pub same : SameHold h v w
@@ -62,13 +62,13 @@ module _ (h : Nexus) (kind : Kind) where
     pub device : f.device ≡ g.device
     pub state : Alike (is_the_holder h) f.state g.state
     pub tables : Tables f.state.reservations g.state.reservations
-    pub of_kind : kind_of f.device ≡ kind
+    pub of_commands : commands_of f.device ≡ commands
 
   abbrev pub Kept : UnitView → Type 0
   Kept v = Hold h v.state.reservations
 
   abbrev pub exact : Nexus → (cdb bytes : List ℕ) → Bool
-  exact n cdb bytes = not (is_read (decoded_command kind cdb bytes))
+  exact n cdb bytes = not (is_read (decoded_command commands cdb bytes))
 
   pub strike : (f v g : UnitView) (n : Nexus) (cdb bytes : List ℕ) (r : Reply) → is_the_holder h n ≡ false → Rel f g → Kept v → IsFair h n cdb bytes f v → Executes f n cdb bytes (v, r) → Rel v g
   strike f v g n cdb bytes r isnt rel state may e =
@@ -82,7 +82,7 @@ module _ (h : Nexus) (kind : Kind) where
           left = change_table f.state.reservations n v.state.reservations (executes_changes f v n cdb bytes r e) rel.tables.left;
           right = rel.tables.right;
         };
-        of_kind = (executes_stays f v n cdb bytes r e).device.kind ∙ rel.of_kind;
+        of_commands = same_commands f.device v.device (executes_stays f v n cdb bytes r e).device ∙ rel.of_commands;
       }
 
   -- h is let through by the permission table at both
@@ -95,7 +95,7 @@ module _ (h : Nexus) (kind : Kind) where
   some_ok a b e = cc
 
   -- what h sends is taken alike
-  pub fits : (f g : UnitView) (cdb bytes : List ℕ) (rel : Rel f g) (is : is_the_holder h h ≡ true) → MaySend h (decoded_command (kind_of f.device) cdb bytes)
+  pub fits : (f g : UnitView) (cdb bytes : List ℕ) (rel : Rel f g) (is : is_the_holder h h ≡ true) → MaySend h (decoded_command (commands_of f.device) cdb bytes)
       → Fits (is_the_holder h) f g h cdb bytes rel.state is (Hold h) (SameHold h) rel.tables.same (exact h cdb bytes)
   fits f g cdb bytes rel is may (ReserveOut p) e =
       let t = rel.tables in
@@ -108,7 +108,7 @@ module _ (h : Nexus) (kind : Kind) where
       )
   fits f g cdb bytes rel is may (ReserveIn a l) e = (
     let_both f.state.reservations g.state.reservations (ReserveIn a l) rel.tables.same,
-    subst (λ (s : Result Command Condition). Says (not (is_read s)) (good (take l (status_data f.state.reservations a))) (good (take l (status_data g.state.reservations a)))) (sym (ap (λ k. decoded_command k cdb bytes) (sym rel.of_kind) ∙ e)) (record { status = refl; sense = refl }),
+    subst (λ (s : Result Command Condition). Says (not (is_read s)) (good (take l (status_data f.state.reservations a))) (good (take l (status_data g.state.reservations a)))) (sym (ap (λ k. decoded_command k cdb bytes) (sym rel.of_commands) ∙ e)) (record { status = refl; sense = refl }),
   )
   fits f g cdb bytes rel is may (Inquiry x y z) e = (let_both f.state.reservations g.state.reservations (Inquiry x y z) rel.tables.same, tt)
   fits f g cdb bytes rel is may (ReportLuns x y) e = (let_both f.state.reservations g.state.reservations (ReportLuns x y) rel.tables.same, tt)
@@ -128,7 +128,7 @@ module _ (h : Nexus) (kind : Kind) where
             left = change_table f.state.reservations h v.state.reservations (executes_changes f v h cdb bytes r e) rel.tables.left;
             right = change_table g.state.reservations h w.state.reservations (executes_changes g w h cdb bytes q d) rel.tables.right;
           };
-          of_kind = (executes_stays f v h cdb bytes r e).device.kind ∙ rel.of_kind;
+          of_commands = same_commands f.device v.device (executes_stays f v h cdb bytes r e).device ∙ rel.of_commands;
         },
         m.reply,
       )
@@ -143,21 +143,21 @@ module _ (h : Nexus) (kind : Kind) where
   lose f v g w n r q rel state free loose e d =
       let m = loss_units (is_the_holder h) f v g w n r q rel.device rel.state Tables rel.tables free loose e d in
       let x = loss_is (is_the_holder h) f v n r free e in
-      (record { device = m.device; state = m.state; tables = m.reservations; of_kind = ap (λ (u : UnitView). kind_of u.device) x.0 ∙ ap kind_of (lost_device (is_the_holder h) f n (has_slot f.state.slots n)) ∙ rel.of_kind }, m.reply)
+      (record { device = m.device; state = m.state; tables = m.reservations; of_commands = ap (λ (u : UnitView). commands_of u.device) x.0 ∙ ap commands_of (lost_device (is_the_holder h) f n (has_slot f.state.slots n)) ∙ rel.of_commands }, m.reply)
 
   pub reset : (f v g w : UnitView) (r q : Reply) → Rel f g → Kept v → r.status ≢ Busy → q.status ≢ Busy → IsReset f (v, r) → IsReset g (w, q) → Rel v w × SameReply true false r q
   reset f v g w r q rel state free loose e d =
       let m = reset_units (is_the_holder h) f v g w r q rel.device rel.state Tables rel.tables free loose e d in
       let x = reset_is (is_the_holder h) f v r free e in
-      (record { device = m.device; state = m.state; tables = m.reservations; of_kind = ap (λ (u : UnitView). kind_of u.device) x.0 ∙ (reset_same f.device).kind ∙ rel.of_kind }, m.reply)
+      (record { device = m.device; state = m.state; tables = m.reservations; of_commands = ap (λ (u : UnitView). commands_of u.device) x.0 ∙ same_commands f.device (reset_of f.device) (reset_same f.device) ∙ rel.of_commands }, m.reply)
 
   -- a move at two changers
   beside_own : (f v g : UnitView) (cdb bytes : List ℕ) (is : is_the_holder h h ≡ true) (rel : Rel f g) → IsFair h h cdb bytes f v → Beside (is_the_holder h) (Hold h) (SameHold h) (exact h cdb bytes) (judged_at f h cdb bytes) (judged_at g h cdb bytes)
   beside_own f v g cdb bytes is rel may = judged_beside (is_the_holder h) f g h cdb bytes rel.device rel.state is (Hold h) (SameHold h) rel.tables.same (exact h cdb bytes) (fits f g cdb bytes rel is (may.own is))
 
   move_own : {A : Type 0} (f v g w : UnitView) (cdb bytes : List ℕ) (r q : Reply) (drives after other : A) (x y : Result (DeviceView × A) Condition) → is_the_holder h h ≡ true → Rel f g → Kept v → IsFair h h cdb bytes f v
-      → kind_of v.device ≡ kind_of f.device → x ≡ y → Ended f v h cdb bytes r drives after x → Ended g w h cdb bytes q drives other y → Rel v w × SameReply (exact h cdb bytes) false r q × (after ≡ other)
-  move_own f v g w cdb bytes r q drives after other x y is rel state may same_kind same e d =
+      → commands_of v.device ≡ commands_of f.device → x ≡ y → Ended f v h cdb bytes r drives after x → Ended g w h cdb bytes q drives other y → Rel v w × SameReply (exact h cdb bytes) false r q × (after ≡ other)
+  move_own f v g w cdb bytes r q drives after other x y is rel state may same_had same e d =
       let m = move_units (is_the_holder h) (Hold h) (SameHold h) (exact h cdb bytes) f v g w h cdb bytes r q drives after other x y state (beside_own f v g cdb bytes is rel may) same e d in (
         record {
           device = m.0.device;
@@ -167,17 +167,17 @@ module _ (h : Nexus) (kind : Kind) where
             left = change_table f.state.reservations h v.state.reservations (ended_changes f v h cdb bytes r drives after x e) rel.tables.left;
             right = change_table g.state.reservations h w.state.reservations (ended_changes g w h cdb bytes q drives other y d) rel.tables.right;
           };
-          of_kind = same_kind ∙ rel.of_kind;
+          of_commands = same_had ∙ rel.of_commands;
         },
         m.0.reply,
         m.1,
       )
 
   move : {A : Type 0} → KeepsMoves (is_the_holder h) exact Kept (IsFair h) Rel A
-  move f v g w n cdb bytes r q drives after other x y is rel state may same_kind same e d =
+  move f v g w n cdb bytes r q drives after other x y is rel state may same_had same e d =
       subst
       (λ (m : Nexus). is_the_holder h m ≡ true → IsFair h m cdb bytes f v → Ended f v m cdb bytes r drives after x → Ended g w m cdb bytes q drives other y → Rel v w × SameReply (exact m cdb bytes) false r q × (after ≡ other)) (sym (same_nexus-true n h is))
-      (λ yes fair a b. move_own f v g w cdb bytes r q drives after other x y yes rel state fair same_kind same a b) is may e d
+      (λ yes fair a b. move_own f v g w cdb bytes r q drives after other x y yes rel state fair same_had same a b) is may e d
 
   sense : (f v g : UnitView) (n : Nexus) (cdb bytes : List ℕ) → is_the_holder h n ≡ true → Rel f g → IsFair h n cdb bytes f v → (judged_at f n cdb bytes).2.sense ≡ (judged_at g n cdb bytes).2.sense
   sense f v g n cdb bytes is rel may =
@@ -189,7 +189,7 @@ module _ (h : Nexus) (kind : Kind) where
     device = beside.device;
     state = beside.state;
     tables = subst (λ (s : State). Tables s w.state.reservations) (sym left.reservations) (subst (λ (s : State). Tables f.state.reservations s) (sym right.reservations) rel.tables);
-    of_kind = left.device.kind ∙ rel.of_kind;
+    of_commands = same_commands f.device v.device left.device ∙ rel.of_commands;
   }
 
   pub along : IsKeptAlong (is_the_holder h) exact Kept (IsFair h) Rel
@@ -206,20 +206,20 @@ module _ (h : Nexus) (kind : Kind) where
     sense = sense;
   }
 
-pub holder_start : (h : Nexus) (u : UnitView) → Begins h u → Rel h (kind_of u.device) u u
+pub holder_start : (h : Nexus) (u : UnitView) → Begins h u → Rel h (commands_of u.device) u u
 holder_start h u begins = record {
   device = refl;
   state = record { lun = refl; units = refl; slots = λ m is. refl; preventers = refl; own = begins.alone };
   tables = record { same = record { holds = begins.hold.holds; other = begins.hold.holds; same_key = refl; keyed = begins.hold.keyed }; left = begins.table; right = begins.table };
-  of_kind = refl;
+  of_commands = refl;
 }
 
 pub holder_span : (us vs ws : List UnitView) (es : List Event) (rs qs : List Reply) (lun : ℕ) (h : Nexus) (u : UnitView) → slice_get us lun ≡ Some u → Begins h u
     → RunsThrough (InSpan lun (λ v. Hold h v.state.reservations) (IsFair h)) us es rs vs → RunsThrough IsServed us (struck lun (is_the_holder h) es) qs ws
-    → EndsAlike lun vs ws × Tells lun (is_the_holder h) (is_exact lun (exact h (kind_of u.device))) es rs qs
+    → EndsAlike lun vs ws × Tells lun (is_the_holder h) (is_exact lun (exact h (commands_of u.device))) es rs qs
 holder_span us vs ws es rs qs lun h u here begins run race =
-    let kind = kind_of u.device in
-    let ends = runs_alike lun (is_the_holder h) (exact h kind) (Kept h kind) (IsFair h) (Rel h kind) (along h kind) us us vs ws es rs qs
+    let had = commands_of u.device in
+    let ends = runs_alike lun (is_the_holder h) (exact h had) (Kept h had) (IsFair h) (Rel h had) (along h had) us us vs ws es rs qs
     (record { f = u; g = u; here = here; there = here; related = holder_start h u begins; rest = λ k apart. refl }) run race in
     (ends_alike lun vs ws ends.lists.f ends.lists.g ends.lists.here ends.lists.there ends.lists.related.device ends.lists.rest, ends.replies)
 
@@ -279,7 +279,7 @@ module _ (inside : Nexus → Bool) where
   beside_g f g n cdb bytes is rel = judged_beside inside f g n cdb bytes rel.device rel.state is (IsShared inside) (λ v w. v ≡ w) rel.same true (fits_g f g n cdb bytes rel is)
 
   move_g : {A : Type 0} → KeepsMoves inside all_exact KeptG AnyG RelG A
-  move_g f v g w n cdb bytes r q drives after other x y is rel state may same_kind same e d =
+  move_g f v g w n cdb bytes r q drives after other x y is rel state may same_had same e d =
       let m = move_units inside (IsShared inside) (λ s t. s ≡ t) true f v g w n cdb bytes r q drives after other x y state (beside_g f g n cdb bytes is rel) same e d in
       (record { device = m.0.device; state = m.0.state; same = m.0.reservations; shared = state }, m.0.reply, m.1)
 

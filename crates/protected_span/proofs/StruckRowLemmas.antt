@@ -15,7 +15,7 @@ use Rattle.pr_core.specs.State.{keys_after, is_registered}
 use Rattle.pr_core.proofs.KeyLaws.{key_in-put}
 use Rattle.tape_medium.specs.Elements.{empty_elements}
 use Rattle.tape_medium.specs.declared.volume.VolumeTag.{VolumeTag}
-use Rattle.device_server.specs.View.{DeviceView, Drive, Changer}
+use Rattle.device_server.specs.View.{DeviceView, Drive, Changer, profile_of}
 use Rattle.judgement.specs.declared.reply.Reply.{Reply}
 use Rattle.logical_unit.specs.Step.{Executes, answered, loses}
 use Rattle.logical_unit.specs.UnitView.{UnitView, last_number}
@@ -96,7 +96,7 @@ Any n cdb bytes u v = Unit {0}
 
 -- THE RUNS
 span_run : (tag : VolumeTag) (bytes : Vec ℕ) → RunsThrough (HolderStep 1 a) (units tag) (row bytes) replies (changer_last bytes ∷ drive_last (drive tag) bytes ∷ [])
-unfolding cdb.command_of keys_after
+unfolding cdb.command_of profile_of keys_after
 span_run tag bytes =
     let u = drive tag in
     let u1 = after_write u bytes in
@@ -125,7 +125,7 @@ span_run tag bytes =
     )
 
 group_run : (tag : VolumeTag) (bytes : Vec ℕ) → RunsThrough (GroupStep 1 (is_the_holder a)) (shared_units tag) (row bytes) replies (changer_last bytes ∷ drive_last (shared_drive tag) bytes ∷ [])
-unfolding cdb.command_of keys_after
+unfolding cdb.command_of profile_of keys_after
 group_run tag bytes =
     let u = shared_drive tag in
     let u1 = after_write u bytes in
@@ -154,7 +154,7 @@ group_run tag bytes =
     )
 
 struck_run : (tag : VolumeTag) (bytes : Vec ℕ) → RunsThrough IsServed (units tag) (struck 1 (is_the_holder a) (row bytes)) struck_replies (changer_last bytes ∷ struck_last (drive tag) bytes ∷ [])
-unfolding cdb.command_of keys_after
+unfolding cdb.command_of profile_of keys_after
 struck_run tag bytes =
     let u = drive tag in
     let u1 = after_unload u bytes in
@@ -177,7 +177,7 @@ struck_run tag bytes =
     )
 
 struck_group_run : (tag : VolumeTag) (bytes : Vec ℕ) → RunsThrough IsServed (shared_units tag) (struck 1 (is_the_holder a) (row bytes)) struck_replies (changer_last bytes ∷ struck_last (shared_drive tag) bytes ∷ [])
-unfolding cdb.command_of keys_after
+unfolding cdb.command_of profile_of keys_after
 struck_group_run tag bytes =
     let u = shared_drive tag in
     let u1 = after_unload u bytes in
@@ -206,7 +206,7 @@ group_span : (tag : VolumeTag) (bytes : Vec ℕ) → IsGroupSpan 1 (is_the_holde
 group_span tag bytes = record { reached = shared_reached tag; place = refl; begins = record { shared = shared; alone = refl }; run = group_run tag bytes }
 
 pub worked_runs : (tag : VolumeTag) (bytes : Vec ℕ) → WorkedRuns tag bytes
-unfolding cdb.command_of keys_after
+unfolding cdb.command_of profile_of keys_after
 worked_runs tag bytes =
     let u = drive tag in
     let c1 = changer_last bytes in
@@ -226,7 +226,7 @@ worked_runs tag bytes =
     }
 
 pub worked_group_runs : (tag : VolumeTag) (bytes : Vec ℕ) → WorkedGroupRuns tag bytes
-unfolding cdb.command_of keys_after
+unfolding cdb.command_of profile_of keys_after
 worked_group_runs tag bytes =
     let u = shared_drive tag in
     let c1 = changer_last bytes in
@@ -254,7 +254,7 @@ by_a (Some r) = same_nexus r.1 a
 
 -- B's WRITE(6) isn't GOOD
 not_good : (tag : VolumeTag) (bytes : Vec ℕ) (vs : List UnitView) → RunsThrough IsServed (units tag) (write bytes ∷ []) (ends Good 1 ∷ []) vs → ⊥
-unfolding cdb.command_of keys_after
+unfolding cdb.command_of profile_of keys_after
 not_good tag bytes vs run =
     let at : AtUnit (units tag) 1 (Executes (drive tag) b (0x0A ∷ 0 ∷ 0 ∷ 0 ∷ 2 ∷ 0 ∷ []) bytes.items) (run.0, ends Good 1) = run.1 in
     elim at.step [
@@ -303,7 +303,7 @@ same_replies = record {
 }
 
 pub told_alike : (bytes : Vec ℕ) → ToldAlike bytes
-unfolding cdb.command_of
+unfolding cdb.command_of profile_of
 told_alike bytes = record {
   another_number = (
     record { status = refl; sense = refl; payload = λ _. refl; number = λ no. absurd cc },

@@ -2,10 +2,10 @@
 use Rattle.std.proofs.Common.{◌≡◌, ℕ, Bool, true, List, Some, is_some, refl, sym, ap}
 use Rattle.std.specs.Prelude.{slice_get}
 use Rattle.std.specs.List.{list_all}
-use Rattle.scsi_cdb.specs.declared.kind.Kind.{Kind}
+use Rattle.scsi_cdb.specs.declared.profile.CommandSet.{CommandSet}
 use Rattle.scsi_nexus.specs.declared.nexus.Nexus.{Nexus}
 use Rattle.unit_attention.specs.Queues.{has_slot}
-use Rattle.device_server.specs.View.{kind_of}
+use Rattle.device_server.specs.View.{commands_of}
 use Rattle.logical_unit.specs.UnitView.{UnitView}
 use Rattle.judgement.specs.declared.reply.Reply.{Reply}
 use Rattle.target_core.specs.declared.event.Event.{Event}
@@ -16,7 +16,7 @@ use Rattle.protected_span.proofs.RoomOfStruckRuns.{roomy_self}
 use Rattle.protected_span.proofs.Spans.{Rel, RelG, Kept, KeptG, AnyG, exact, all_exact, along, along_g, holder_start, group_start}
 use Rattle.protected_span.proofs.Serve.{serves}
 
-slots_h : (h : Nexus) (k : Kind) (f g : UnitView) (n : Nexus) → is_the_holder h n ≡ true → Rel h k f g → has_slot g.state.slots n ≡ has_slot f.state.slots n
+slots_h : (h : Nexus) (k : CommandSet) (f g : UnitView) (n : Nexus) → is_the_holder h n ≡ true → Rel h k f g → has_slot g.state.slots n ≡ has_slot f.state.slots n
 slots_h h k f g n is rel = sym (ap is_some (rel.state.slots n is))
 
 slots_g : (inside : Nexus → Bool) (f g : UnitView) (n : Nexus) → inside n ≡ true → RelG inside f g → has_slot g.state.slots n ≡ has_slot f.state.slots n
@@ -27,7 +27,7 @@ pub spans_serve : (us vs : List UnitView) (es : List Event) (rs : List Reply) (l
     × ((inside : Nexus → Bool) → IsShared inside u.state.reservations → list_all inside u.state.preventers ≡ true → RunsThrough (InSpan lun (KeptG inside) (AnyG inside)) us es rs vs → Serves us (struck lun inside es))
 spans_serve us vs es rs lun u here slots = (
   λ h begins run.
-      let k = kind_of u.device in
+      let k = commands_of u.device in
       serves lun (is_the_holder h) (exact h k) (Kept h k) (IsFair h) (Rel h k) (along h k) (slots_h h k) us us vs es rs
       (record { f = u; g = u; here = here; there = here; rest = λ j apart. refl; related = record { rel = holder_start h u begins; room = roomy_self u slots.sorted slots.few } }) run,
   λ inside shared alone run.

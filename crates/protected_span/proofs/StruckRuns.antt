@@ -4,7 +4,7 @@ use Rattle.std.specs.Prelude.{slice_get, slice_set, if◌then◌else◌}
 use Rattle.std.proofs.lemmas.Map.Views.{exact_unsigned_eq}
 use Rattle.scsi_nexus.specs.declared.nexus.Nexus.{Nexus}
 use Rattle.scsi_sense.specs.declared.status.Status.TheVariants.{Busy}
-use Rattle.device_server.specs.View.{DeviceView, drives_of}
+use Rattle.device_server.specs.View.{DeviceView, commands_of, drives_of}
 use Rattle.judgement.specs.declared.reply.Reply.{Reply}
 use Rattle.judgement.specs.Replies.{AnswersAbsent, absent_answer, busy}
 use Rattle.unit_attention.specs.Queues.{has_slot}
@@ -75,8 +75,8 @@ module _ (lun : ℕ) (inside : Nexus → Bool) (exact : Nexus → (cdb bytes : L
   command_both us ws ms ns (suc k) (Some x) (Some y) n cdb bytes r q l here there both is goes free loose a b =
       alone_both lun inside exact Kept May Rel along us ws ms ns (suc k) x y n cdb bytes r q l here there is goes free loose a b
   command_both us ws ms ns zero (Some x) (Some y) n cdb bytes r q l here there both is goes free loose a b =
-      naming_both lun inside exact Kept May Rel along us ws ms ns (named (drives_of x.device) cdb) x y n cdb bytes r q l here there refl is goes free loose a
-      (subst (λ (d : DeviceView). CommandsNaming ws y (named (drives_of d) cdb) n cdb bytes (ns, q)) (sym (looks_at lun inside exact Kept May Rel along 0 x y both)) b)
+      naming_both lun inside exact Kept May Rel along us ws ms ns (named (commands_of x.device) (drives_of x.device) cdb) x y n cdb bytes r q l here there refl is goes free loose a
+      (subst (λ (d : DeviceView). CommandsNaming ws y (named (commands_of d) (drives_of d) cdb) n cdb bytes (ns, q)) (sym (looks_at lun inside exact Kept May Rel along 0 x y both)) b)
 
   -- of a nexus outside, to the unit
   struck_command : (us ws ms : List UnitView) (n : Nexus) (at : ℕ) (cdb bytes : List ℕ) (r : Reply) → inside n ≡ false → (at == lun) ≡ true → L us ws

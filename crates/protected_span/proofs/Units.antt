@@ -13,7 +13,7 @@ use Rattle.pr_core.specs.State.{State, res_type, role}
 use Rattle.pr_core.specs.Judge.{verdict}
 use Rattle.pr_core.specs.Outcome.{applied}
 use Rattle.pr_core.specs.declared.verdict.Verdict.TheVariants.{Allowed}
-use Rattle.device_server.specs.View.{kind_of, reset_of}
+use Rattle.device_server.specs.View.{commands_of, reset_of}
 use Rattle.judgement.specs.declared.command.Command.{Command}
 use Rattle.judgement.specs.declared.decision.Decision.{Decision}
 use Rattle.judgement.specs.declared.reply.Reply.{Reply}
@@ -74,7 +74,7 @@ module _ (inside : Nexus → Bool) where
       let u = contacted_present f n in
       let x = judged u n cdb bytes in
       let is : f' ≡ (answered f n cdb bytes).0 = ap (λ (y : UnitView × Reply). y.0) e.2 in
-      let left : Left inside u x.0 = judged_leaves inside u n isnt shut alike.own P calm (decoded_command (kind_of f.device) cdb bytes) bytes (subst (λ (y : UnitView). P y.state.reservations) is good) in
+      let left : Left inside u x.0 = judged_leaves inside u n isnt shut alike.own P calm (decoded_command (commands_of f.device) cdb bytes) bytes (subst (λ (y : UnitView). P y.state.reservations) is good) in
       let state : Alike inside x.0.state g.state =
       left_alike f.state x.0.state g.state alike left.lun left.units (λ m within. left.slots m within ∙ contact-apart f.state.slots n m (apart inside m n within isnt)) left.preventers in
       (ap (λ (y : UnitView). y.device) is ∙ left.device ∙ device, subst (λ (y : UnitView). Alike inside y.state g.state) (sym is) state)
@@ -121,7 +121,7 @@ module _ (inside : Nexus → Bool) where
   -- what a nexus inside has to do with two units: the check says the same of its command, and its act is taken alike
   abbrev pub Fits : (f g : UnitView) (n : Nexus) (cdb bytes : List ℕ) → Alike inside f.state g.state → inside n ≡ true → (P : State → Type 0) (R : State → State → Type 0) → R f.state.reservations g.state.reservations → (exact : Bool) → Type 0
   Fits f g n cdb bytes alike is P R related exact =
-      (k : Command) → decoded_command (kind_of f.device) cdb bytes ≡ Ok k → (verdict_of f.state.reservations n k ≡ verdict_of g.state.reservations n k)
+      (k : Command) → decoded_command (commands_of f.device) cdb bytes ≡ Ok k → (verdict_of f.state.reservations n k ≡ verdict_of g.state.reservations n k)
       × Fit inside (contacted_present f n) g.state.reservations (contacted g.state.slots n) n is alike.own (λ m within. contact-alike f.state.slots g.state.slots n m (alike.slots m within)) P R related exact k
 
   -- THE JUDGEMENT OF A NEXUS INSIDE, at both
@@ -133,7 +133,7 @@ module _ (inside : Nexus → Bool) where
       let o = other inside u g.state.reservations (contacted g.state.slots n) n is alike.own slots P R related exact in
       let shape : contacted_present g n ≡ o =
       λ i. record { device = sym device i; state = record { lun = sym alike.lun i; units = sym alike.units i; reservations = g.state.reservations; slots = contacted g.state.slots n; preventers = sym alike.preventers i } } in
-      let b = judged_both u g.state.reservations (contacted g.state.slots n) n is alike.own slots P R related exact (decoded_command (kind_of f.device) cdb bytes) bytes fits in
+      let b = judged_both u g.state.reservations (contacted g.state.slots n) n is alike.own slots P R related exact (decoded_command (commands_of f.device) cdb bytes) bytes fits in
       subst (λ (x : JudgedUnit × Decision × Reply). Beside P R exact (judged u n cdb bytes) x) (sym (ap (λ (p : JudgedUnit). judged p n cdb bytes) shape)) (record { device = b.device; state = b.state; reply = b.reply; reservations = b.reservations })
 
   -- THE STEP OF A NEXUS INSIDE, at both

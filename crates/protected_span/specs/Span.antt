@@ -11,7 +11,7 @@ use Rattle.permit_tables.specs.declared.res_type.ResType.TheVariants as type
 use Rattle.pr_params.specs.Lists.{has_spec_i_pt, has_all_tg_pt, register_params}
 use Rattle.pr_core.specs.State.{State, key, is_registered, res_type}
 use Rattle.pr_core.specs.Targets.{targets}
-use Rattle.device_server.specs.View.{kind_of}
+use Rattle.device_server.specs.View.{commands_of}
 use Rattle.judgement.specs.declared.command.Command.{Command}
 use Rattle.judgement.specs.declared.command.Command.TheVariants.{ReserveOut, ReserveIn}
 use Rattle.judgement.specs.Commands.{decoded_command}
@@ -45,7 +45,7 @@ MaySend h c = Unit {0}
 
 -- a command to the unit: of h, one that it may send; of another, one that leaves h its key
 pub record IsFair (h : Nexus) (n : Nexus) (cdb bytes : List ℕ) (u v : UnitView) : Type 0 where
-  pub own : same_nexus n h ≡ true → MaySend h (decoded_command (kind_of u.device) cdb bytes)
+  pub own : same_nexus n h ≡ true → MaySend h (decoded_command (commands_of u.device) cdb bytes)
   pub others : same_nexus n h ≡ false → key v.state.reservations h ≡ key u.state.reservations h
 
 -- a REGISTER list with neither SPEC_I_PT nor ALL_TG_PT names its sender alone (SPC-4, "REGISTER service action")
@@ -81,7 +81,7 @@ abbrev pub HolderSpan : Type 0
 HolderSpan =
     (us vs ws : List UnitView) (es : List Event) (rs qs : List Reply) (lun : ℕ) (h : Nexus) (u : UnitView) → IsHolderSpan lun h us u es rs vs
     → RunsThrough IsServed us (struck lun (is_the_holder h) es) qs ws
-    → EndsAlike lun vs ws × Tells lun (is_the_holder h) (is_exact lun (λ n cdb bytes. not (is_read (decoded_command (kind_of u.device) cdb bytes)))) es rs qs
+    → EndsAlike lun vs ws × Tells lun (is_the_holder h) (is_exact lun (λ n cdb bytes. not (is_read (decoded_command (commands_of u.device) cdb bytes)))) es rs qs
 
 -- THE SPAN OF A GROUP, those inside: Exclusive Access of registrants, and the registered nexuses are those inside
 pub record IsSharedBy (inside : Nexus → Bool) (v : State) : Type 0 where

@@ -4,6 +4,8 @@ use Rattle.std.specs.Prelude.{◌≡◌, ℕ, Bool, true, false, not, List, [], 
 use Rattle.std.specs.Global.{Vec}
 use Rattle.permit_tables.specs.declared.res_type.ResType.TheVariants as type
 use Rattle.scsi_cdb.specs.declared.kind.Kind.TheVariants as kind
+use Rattle.scsi_cdb.specs.declared.profile.Profile.TheVariants.{Spec}
+use Rattle.scsi_cdb.specs.Kinds.{commands}
 use Rattle.scsi_sense.specs.declared.sense.Sense.{Sense}
 use Rattle.scsi_sense.specs.declared.status.Status.{Status}
 use Rattle.scsi_sense.specs.declared.status.Status.TheVariants.{Good, CheckCondition, Busy, ReservationConflict}
@@ -83,7 +85,7 @@ struck_replies = ends Good 1 ∷ told power_on 1 ∷ ends Good 2 ∷ []
 
 -- whether data are to be the same, in a span of A
 abbrev pub exact : Event → Bool
-exact = is_exact 1 (λ n cdb bytes. not (is_read (decoded_command kind.Drive cdb bytes)))
+exact = is_exact 1 (λ n cdb bytes. not (is_read (decoded_command (commands Spec kind.Drive) cdb bytes)))
 
 pub record WorkedRuns (tag : VolumeTag) (bytes : Vec ℕ) : Type 0 where
   -- the changer and the drive in the end, and without B's WRITE(6)

@@ -1,5 +1,5 @@
 -- Worked rows: what a replay of one reset writes, and what each fault says.
-use Rattle.std.specs.Prelude.{◌≡◌, ℕ, false, List, [], ◌∷◌, ◌++◌, Some, None, codes}
+use Rattle.std.specs.Prelude.{◌≡◌, ℕ, List, [], ◌∷◌, ◌++◌, Some, None, codes}
 use Rattle.scsi_sense.specs.declared.status.Status.TheVariants.{Good}
 use Rattle.tape_medium.specs.Elements.{empty_elements}
 use Rattle.audit_log.specs.declared.act.Act.TheVariants.{Reset}
@@ -47,7 +47,7 @@ target records =
 
 -- a reset of the changer, as its record 1
 abbrev pub reset : Record
-reset = record { number = 1; nexus = None; act = Reset; stage = Device; cell = None; rule = None; status = Good; sense = None; mode_changed = false }
+reset = record { number = 1; nexus = None; act = Reset; stage = Device; cell = None; rule = None; status = Good; sense = None; told = None }
 
 -- a line and its line feed
 abbrev pub line : List ℕ → List ℕ

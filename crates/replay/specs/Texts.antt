@@ -1,5 +1,7 @@
 -- What is written of the replies of a run.
 use Rattle.std.specs.Prelude.{ℕ, List, [], ◌∷◌, ◌++◌}
+use Rattle.scsi_cdb.specs.declared.profile.Profile.{Profile}
+use Rattle.scsi_cdb.specs.declared.profile.Profile.TheVariants.{Spec}
 use Rattle.judgement.specs.declared.reply.Reply.{Reply}
 use Rattle.target_core.specs.declared.event.Event.{Event}
 use Rattle.target_core.specs.declared.event.Event.TheVariants.{Command, Loss, Reset}
@@ -18,9 +20,13 @@ cdb_of (Command nexus lun cdb bytes) = cdb.items
 cdb_of (Loss nexus lun) = []
 cdb_of (Reset lun) = []
 
+-- the profile of the library of a script
+abbrev pub profile_of_scripts : Profile
+profile_of_scripts = Spec
+
 -- what is written of the reply to an event
 abbrev pub event_text : Explanations → Event → Reply → List ℕ
-event_text explanations event r = answer_text explanations (lun_of event) (cdb_of event) r.status r.sense r.payload
+event_text explanations event r = answer_text explanations profile_of_scripts (lun_of event) (cdb_of event) r.status r.sense r.payload
 
 -- and of the replies to events, in their order
 abbrev pub run_text : Explanations → List Event → List Reply → List ℕ

@@ -12,10 +12,14 @@ use logical_unit::Reply;
 use output_lines::{Audit, Explanations, audit_text, write_explained, write_out};
 use script_input::{ReplayFault, read_all};
 use script_lines::{Events, events_of};
+use scsi_cdb::Profile;
 use std::alloc::{AllocError, Global};
 use std::io;
 use std::io::{Read, Write};
 use target_core::{Event, TargetCore};
+
+/// The profile of the library of a script.
+const PROFILE: Profile = Profile::Spec;
 
 /// Reads a script to its end, by at most `turns` reads of at most 65,536 bytes, runs its events and
 /// writes a line for each reply, with one behind it that says it in words where those are wanted, and then,
@@ -115,6 +119,7 @@ fn write_event(
     write_explained(
         text,
         explanations,
+        PROFILE,
         lun_of(event),
         cdb_of(event),
         reply.status,

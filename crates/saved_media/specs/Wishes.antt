@@ -39,6 +39,13 @@ wish_of class.PreemptAndAbort immediate = Nothing
 wish_of class.Release immediate = Nothing
 wish_of class.Reserve immediate = Nothing
 wish_of class.RegisterAndMove immediate = Nothing
+wish_of class.SendDiagnostic immediate = Nothing
+wish_of class.LogSelect immediate = Nothing
+wish_of class.LogSense immediate = Nothing
+wish_of class.ModeSelect10 immediate = Nothing
+wish_of class.ModeSense10 immediate = Nothing
+wish_of class.ReportSupportedOperationCodes immediate = Nothing
+wish_of class.ReportSupportedTaskManagementFunctions immediate = Nothing
 
 -- whether the reply waits
 abbrev pub is_waited_for : Wish → Bool

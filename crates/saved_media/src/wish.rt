@@ -19,7 +19,8 @@ pub(crate) enum Wish {
 
 /// WRITE(6) is copied in the background (SSC-4, "WRITE(6) command"). WRITE FILEMARKS(6), also of none, ERASE(6), LOAD UNLOAD and MOVE MEDIUM
 /// are kept before they are answered: a host takes what is before them for written (SSC-4, "WRITE FILEMARKS(6) command", and
-/// profile). With IMMED a WRITE FILEMARKS(6) is kept as soon, but not waited for. No other changes a tape, or where a volume is.
+/// profile). With IMMED a WRITE FILEMARKS(6) is kept as soon, but not waited for. No other changes a tape, or where a volume is, also none that
+/// only the hosts' profile has.
 pub(crate) fn wish_of(class: Class, is_immediate: bool) -> Wish
     ensures { result ≡ wish_of class is_immediate }
 {
@@ -53,6 +54,13 @@ pub(crate) fn wish_of(class: Class, is_immediate: bool) -> Wish
         | Class::PreemptAndAbort
         | Class::Release
         | Class::Reserve
-        | Class::RegisterAndMove => Wish::Nothing,
+        | Class::RegisterAndMove
+        | Class::SendDiagnostic
+        | Class::LogSelect
+        | Class::LogSense
+        | Class::ModeSelect10
+        | Class::ModeSense10
+        | Class::ReportSupportedOperationCodes
+        | Class::ReportSupportedTaskManagementFunctions => Wish::Nothing,
     }
 }

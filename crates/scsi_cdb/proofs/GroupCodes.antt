@@ -5,6 +5,8 @@ use Rattle.std.specs.List.{find, list_all}
 use Rattle.std.specs.Option.{option_map}
 use Rattle.scsi_cdb.specs.Commands.{Row, table, command_of, row_of, where_had, has, length_of_group}
 use Rattle.scsi_cdb.specs.declared.kind.Kind.{Kind}
+use Rattle.scsi_cdb.specs.declared.profile.Profile.{Profile}
+use Rattle.scsi_cdb.specs.declared.profile.Profile.TheVariants.{Spec, Hosts}
 
 abbrev agrees : Row → Bool
 agrees r = r.length == length_of_group (r.opcode / 32)
@@ -25,9 +27,10 @@ among (r ∷ rows) opcode all =
     let parts = and_parts (agrees r) (list_all agrees rows) all in
     by_test r (find (λ (x : Row). x.opcode == opcode) rows) opcode (r.opcode == opcode) refl parts.0 (among rows opcode parts.1)
 
-length_of_command : (opcode : ℕ) → IfSome (command_of opcode) (λ (r : Row). r.length ≡ length_of_group (opcode / 32))
+length_of_command : (profile : Profile) (opcode : ℕ) → IfSome (command_of profile opcode) (λ (r : Row). r.length ≡ length_of_group (opcode / 32))
 unfolding command_of
-length_of_command opcode = among table opcode refl
+length_of_command Spec opcode = among (table Spec) opcode refl
+length_of_command Hosts opcode = among (table Hosts) opcode refl
 
 of_had : (b : Bool) (r : Row) (n : ℕ) → r.length ≡ n → is_some (cond b (Some r) None) ≡ true → Some n ≡ option_map (λ (x : Row). x.length) (cond b (Some r) None)
 of_had true r n e h = ap (λ (k : ℕ). Some k) (sym e)
@@ -39,13 +42,13 @@ of_row kind None n e h = absurd cc
 of_row kind (Some r) n e h = of_had (has r.units kind) r n e h
 
 -- of a command that the kind of unit has, and of none
-pub length_where_had : (kind : Kind) (opcode : ℕ) → is_some (row_of kind opcode) ≡ true
-    → Some (length_of_group (opcode / 32)) ≡ option_map (λ (x : Row). x.length) (row_of kind opcode)
-length_where_had kind opcode h = of_row kind (command_of opcode) _ (length_of_command opcode) h
+pub length_where_had : (profile : Profile) (kind : Kind) (opcode : ℕ) → is_some (row_of profile kind opcode) ≡ true
+    → Some (length_of_group (opcode / 32)) ≡ option_map (λ (x : Row). x.length) (row_of profile kind opcode)
+length_where_had profile kind opcode h = of_row kind (command_of profile opcode) _ (length_of_command profile opcode) h
 
 none_of : (o : Option Row) → is_some o ≡ false → None ≡ option_map (λ (x : Row). x.length) o
 none_of None h = refl
 none_of (Some r) h = absurd cc
 
-pub no_length : (kind : Kind) (opcode : ℕ) → is_some (row_of kind opcode) ≡ false → None ≡ option_map (λ (x : Row). x.length) (row_of kind opcode)
-no_length kind opcode h = none_of (row_of kind opcode) h
+pub no_length : (profile : Profile) (kind : Kind) (opcode : ℕ) → is_some (row_of profile kind opcode) ≡ false → None ≡ option_map (λ (x : Row). x.length) (row_of profile kind opcode)
+no_length profile kind opcode h = none_of (row_of profile kind opcode) h

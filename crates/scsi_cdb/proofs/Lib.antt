@@ -1,1 +1,2 @@
 pub mod GroupCodes
+pub mod Profiles

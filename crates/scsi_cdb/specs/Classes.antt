@@ -1,5 +1,6 @@
 -- The class of each request: the row of the permission table that it is judged by.
 use Rattle.std.specs.Prelude.{◌==◌, Bool, false, if◌then◌else◌}
+use Rattle.scsi_cdb.specs.HostCommands.{host_class_of}
 use Rattle.scsi_cdb.specs.declared.classes.Class.{Class}
 use Rattle.scsi_cdb.specs.declared.classes.Class.TheVariants as class
 use Rattle.scsi_cdb.specs.declared.service_action.OutServiceAction.{OutServiceAction}
@@ -44,6 +45,7 @@ class_of (request.ReportLuns select n) = class.ReportLuns
 class_of (request.MoveMedium transport source destination invert) = class.MoveMedium
 class_of (request.ReadElementStatus voltag type_code start count curdata dvcid n) =
     if curdata then class.ReadElementStatusCurdata else class.ReadElementStatus
+class_of (request.Host command) = host_class_of command
 
 -- whether the status needn't wait for the medium
 abbrev pub is_immediate : Request → Bool

@@ -2,6 +2,7 @@
 -- have it, and its fields.
 use Rattle.std.specs.Prelude.{ℕ, ◌-◌, ◌==◌, nat_lt, Bool, true, false, List, [], ◌∷◌, length, Option, Some, None, Result, Ok, Err, if◌then◌else◌, find}
 use Rattle.scsi_cdb.specs.Bits.{bit, bits, byte, two_bytes, three_bytes, four_bytes, signed_three_bytes}
+use Rattle.scsi_cdb.specs.HostCommands.{send_diagnostic, log_select, log_sense, mode_select_10, mode_sense_10, maintenance_in}
 use Rattle.scsi_cdb.specs.declared.action.InServiceAction.{InServiceAction}
 use Rattle.scsi_cdb.specs.declared.action.InServiceAction.TheVariants as in_act
 use Rattle.scsi_cdb.specs.ServiceActions.{out_service_action}
@@ -10,8 +11,12 @@ use Rattle.scsi_cdb.specs.declared.fault.CdbFault.{CdbFault}
 use Rattle.scsi_cdb.specs.declared.fault.CdbFault.TheVariants.{Opcode, ShortCdb, ServiceAction, Naca}
 use Rattle.scsi_cdb.specs.declared.kind.Kind.{Kind}
 use Rattle.scsi_cdb.specs.declared.kind.Kind.TheVariants.{Drive, Changer}
+use Rattle.scsi_cdb.specs.declared.profile.CommandSet.{CommandSet}
+use Rattle.scsi_cdb.specs.declared.profile.Profile.{Profile}
+use Rattle.scsi_cdb.specs.declared.profile.Profile.TheVariants.{Spec, Hosts}
+use Rattle.scsi_cdb.specs.declared.host_request.HostRequest.{HostRequest}
 use Rattle.scsi_cdb.specs.declared.request.Request.{Request}
-use Rattle.scsi_cdb.specs.declared.request.Request.TheVariants.{TestUnitReady, Rewind, RequestSense, ReadBlockLimits, InitializeElementStatus, Read, Write, WriteFilemarks, Space, Inquiry, ModeSelect, Erase, ModeSense, LoadUnload, PreventAllowMediumRemoval, Locate, ReadPosition, PersistentReserveIn, PersistentReserveOut, ReportLuns, MoveMedium, ReadElementStatus}
+use Rattle.scsi_cdb.specs.declared.request.Request.TheVariants.{TestUnitReady, Rewind, RequestSense, ReadBlockLimits, InitializeElementStatus, Read, Write, WriteFilemarks, Space, Inquiry, ModeSelect, Erase, ModeSense, LoadUnload, PreventAllowMediumRemoval, Locate, ReadPosition, PersistentReserveIn, PersistentReserveOut, ReportLuns, MoveMedium, ReadElementStatus, Host}
 
 -- which kinds of unit have a command: both, the drives, the changer
 pub data Units : Type 0 where
@@ -45,9 +50,11 @@ in_service_action code =
     else if code == 0x03 then Some in_act.ReadFullStatus
     else None
 
--- the only service action of READ POSITION: the short form, with block identifiers
-abbrev pub read_position : ℕ → Option Request
-read_position code = if code == 0x00 then Some ReadPosition else None
+-- the service actions of READ POSITION: the short form, with block identifiers; in the hosts' profile also the short form with vendor specific
+-- ones, which are the same (profile)
+abbrev pub read_position : Profile → ℕ → Option Request
+read_position Spec code = if code == 0x00 then Some ReadPosition else None
+read_position Hosts code = if code == 0x00 then Some ReadPosition else if code == 0x01 then Some ReadPosition else None
 
 abbrev pub reserve_in : Option InServiceAction → ℕ → Option Request
 reserve_in None allocation_length = None
@@ -57,9 +64,25 @@ abbrev pub reserve_out : Option OutServiceAction → ℕ → ℕ → Option Requ
 reserve_out None scope_type list_length = None
 reserve_out (Some action) scope_type list_length = Some (PersistentReserveOut action scope_type list_length)
 
--- the commands in order of their operation codes; a CDB is c
-abbrev pub table : List Row
-table =
+abbrev pub of_host : Option HostRequest → Option Request
+of_host None = None
+of_host (Some request) = Some (Host request)
+
+-- the commands that only the hosts' profile has, in order of their operation codes; a CDB is c
+abbrev pub host_rows : Profile → List Row
+host_rows Spec = []
+host_rows Hosts =
+    row 0x1D 6 Both (λ c. Some (Host (send_diagnostic c)))
+    ∷ row 0x4C 10 Both (λ c. Some (Host (log_select c)))
+    ∷ row 0x4D 10 Both (λ c. Some (Host (log_sense c)))
+    ∷ row 0x55 10 Drives (λ c. Some (Host (mode_select_10 c)))
+    ∷ row 0x5A 10 Both (λ c. Some (Host (mode_sense_10 c)))
+    ∷ row 0xA3 12 Both (λ c. of_host (maintenance_in (bits c 1 4 0) c))
+    ∷ []
+
+-- the commands of a profile: those of both in order of their operation codes, then its own
+abbrev pub table : Profile → List Row
+table profile =
     row 0x00 6 Both (λ c. Some TestUnitReady)
     ∷ row 0x01 6 Drives (λ c. Some Rewind)
     ∷ row 0x03 6 Both (λ c. Some (RequestSense (bit c 1 0) (byte c 4)))
@@ -76,25 +99,25 @@ table =
     ∷ row 0x1B 6 Drives (λ c. Some (LoadUnload (bit c 4 3) (bit c 4 2) (bit c 4 0)))
     ∷ row 0x1E 6 Both (λ c. Some (PreventAllowMediumRemoval (bits c 4 1 0)))
     ∷ row 0x2B 10 Drives (λ c. Some (Locate (bit c 1 2) (bit c 1 1) (four_bytes c 3)))
-    ∷ row 0x34 10 Drives (λ c. read_position (bits c 1 4 0))
+    ∷ row 0x34 10 Drives (λ c. read_position profile (bits c 1 4 0))
     ∷ row 0x5E 10 Both (λ c. reserve_in (in_service_action (bits c 1 4 0)) (two_bytes c 7))
     ∷ row 0x5F 10 Both (λ c. reserve_out (out_service_action (bits c 1 4 0)) (byte c 2) (four_bytes c 5))
     ∷ row 0xA0 12 Both (λ c. Some (ReportLuns (byte c 2) (four_bytes c 6)))
     ∷ row 0xA5 12 Changers (λ c. Some (MoveMedium (two_bytes c 2) (two_bytes c 4) (two_bytes c 6) (bit c 10 0)))
     ∷ row 0xB8 12 Changers (λ c. Some (ReadElementStatus
     (bit c 1 4) (bits c 1 3 0) (two_bytes c 2) (two_bytes c 4) (bit c 6 1) (bit c 6 0) (three_bytes c 7)))
-    ∷ []
+    ∷ host_rows profile
 
 -- the command of an operation code, and that command where units of the kind have it
-unfoldable pub command_of : ℕ → Option Row
-command_of opcode = find (λ (r : Row). r.opcode == opcode) table
+unfoldable pub command_of : Profile → ℕ → Option Row
+command_of profile opcode = find (λ (r : Row). r.opcode == opcode) (table profile)
 
 abbrev pub where_had : Kind → Option Row → Option Row
 where_had kind None = None
 where_had kind (Some r) = if has r.units kind then Some r else None
 
-abbrev pub row_of : Kind → ℕ → Option Row
-row_of kind opcode = where_had kind (command_of opcode)
+abbrev pub row_of : Profile → Kind → ℕ → Option Row
+row_of profile kind opcode = where_had kind (command_of profile opcode)
 
 abbrev pub fields_in : Option Row → List ℕ → Option Request
 fields_in None cdb = None
@@ -118,6 +141,6 @@ abbrev pub read_as : Option Row → List ℕ → Result Request CdbFault
 read_as None cdb = Err Opcode
 read_as (Some r) cdb = if nat_lt (length cdb) r.length then Err ShortCdb else checked (naca r cdb) (r.fields cdb)
 
--- the request that a CDB decodes to for a kind of unit, or the first fault in order
-abbrev pub decoded : Kind → List ℕ → Result Request CdbFault
-decoded kind cdb = if length cdb == 0 then Err ShortCdb else read_as (row_of kind (byte cdb 0)) cdb
+-- the request that a CDB decodes to for a unit with these commands, or the first fault in order
+abbrev pub decoded : CommandSet → List ℕ → Result Request CdbFault
+decoded commands cdb = if length cdb == 0 then Err ShortCdb else read_as (row_of commands.profile commands.kind (byte cdb 0)) cdb

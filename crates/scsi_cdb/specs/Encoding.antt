@@ -1,38 +1,19 @@
 -- The bytes of a request: what is no field of it is zero.
-use Rattle.std.specs.Prelude.{◌≡◌, ℕ, ◌+◌, ◌-◌, ◌*◌, ◌/◌, ◌%◌, ◌^◌, ◌<◌, Bool, ℤ, pos, negsuc, ◌<ℤ◌, ◌≤ℤ◌, neg_ℤ, List, [], ◌∷◌, ◌++◌, length, replicate, slice_index, IsSome, Ok, if◌then◌else◌}
+use Rattle.std.specs.Prelude.{◌≡◌, ℕ, ◌+◌, ◌-◌, ◌%◌, ◌^◌, ◌<◌, ℤ, pos, negsuc, ◌<ℤ◌, ◌≤ℤ◌, neg_ℤ, List, [], ◌∷◌, ◌++◌, slice_index, IsSome, Ok}
+use Rattle.scsi_cdb.specs.Bytes.{at, from, two, three, four, padded}
 use Rattle.scsi_cdb.specs.Commands.{row_of, decoded}
+use Rattle.scsi_cdb.specs.HostCommands.{host_encoded, HostFits}
+use Rattle.scsi_cdb.specs.declared.profile.CommandSet.{CommandSet}
 use Rattle.scsi_cdb.specs.declared.action.InServiceAction.{InServiceAction}
 use Rattle.scsi_cdb.specs.declared.action.InServiceAction.TheVariants as in_act
 use Rattle.scsi_cdb.specs.ServiceActions.{out_code}
-use Rattle.scsi_cdb.specs.declared.kind.Kind.{Kind}
 use Rattle.scsi_cdb.specs.declared.request.Request.{Request}
-use Rattle.scsi_cdb.specs.declared.request.Request.TheVariants.{TestUnitReady, Rewind, RequestSense, ReadBlockLimits, InitializeElementStatus, Read, Write, WriteFilemarks, Space, Inquiry, ModeSelect, Erase, ModeSense, LoadUnload, PreventAllowMediumRemoval, Locate, ReadPosition, PersistentReserveIn, PersistentReserveOut, ReportLuns, MoveMedium, ReadElementStatus}
-
--- a field of one bit, and one from bit high to bit low
-abbrev pub at : ℕ → Bool → ℕ
-at k b = if b then 2 ^ k else 0
-
-abbrev pub from : ℕ → ℕ → ℕ → ℕ
-from high low n = n % 2 ^ (high + 1 - low) * 2 ^ low
-
--- fields of two, three and four bytes, the highest first
-abbrev pub two : ℕ → List ℕ
-two n = n / 2 ^ 8 % 256 ∷ n % 256 ∷ []
-
-abbrev pub three : ℕ → List ℕ
-three n = n / 2 ^ 16 % 256 ∷ n / 2 ^ 8 % 256 ∷ n % 256 ∷ []
-
-abbrev pub four : ℕ → List ℕ
-four n = n / 2 ^ 24 % 256 ∷ n / 2 ^ 16 % 256 ∷ n / 2 ^ 8 % 256 ∷ n % 256 ∷ []
+use Rattle.scsi_cdb.specs.declared.request.Request.TheVariants.{TestUnitReady, Rewind, RequestSense, ReadBlockLimits, InitializeElementStatus, Read, Write, WriteFilemarks, Space, Inquiry, ModeSelect, Erase, ModeSense, LoadUnload, PreventAllowMediumRemoval, Locate, ReadPosition, PersistentReserveIn, PersistentReserveOut, ReportLuns, MoveMedium, ReadElementStatus, Host}
 
 -- a number in 24 bits as two's complement
 abbrev pub twos_complement : ℤ → ℕ
 twos_complement (pos n) = n % 2 ^ 24
 twos_complement (negsuc n) = 2 ^ 24 - 1 - n % 2 ^ 24
-
--- 16 bytes: these, then zeros
-abbrev pub padded : List ℕ → List ℕ
-padded bytes = bytes ++ replicate (16 - length bytes) 0
 
 -- the codes of the service actions
 abbrev pub in_code : InServiceAction → ℕ
@@ -67,6 +48,7 @@ encoded (MoveMedium transport source destination invert) =
     padded (0xA5 ∷ 0 ∷ (two transport ++ two source ++ two destination ++ 0 ∷ 0 ∷ at 0 invert ∷ []))
 encoded (ReadElementStatus voltag type_code start count curdata dvcid n) =
     padded (0xB8 ∷ (at 4 voltag + from 3 0 type_code) ∷ (two start ++ two count ++ (at 1 curdata + at 0 dvcid) ∷ three n))
+encoded (Host request) = host_encoded request
 
 -- the fields fit their bits
 abbrev pub Fits : Request → Type 0
@@ -85,12 +67,13 @@ Fits (PersistentReserveOut action scope_type n) = (scope_type < 2 ^ 8) × (n < 2
 Fits (ReportLuns select n) = (select < 2 ^ 8) × (n < 2 ^ 32)
 Fits (MoveMedium transport source destination invert) = (transport < 2 ^ 16) × (source < 2 ^ 16) × (destination < 2 ^ 16)
 Fits (ReadElementStatus voltag type_code start count curdata dvcid n) = (type_code < 2 ^ 4) × (start < 2 ^ 16) × (count < 2 ^ 16) × (n < 2 ^ 24)
+Fits (Host request) = HostFits request
 Fits _ = Unit {0}
 
--- units of the kind have the request's command
-abbrev pub IsOf : Kind → Request → Type 0
-IsOf kind r = IsSome (row_of kind (slice_index (encoded r) 0))
+-- the request's command is one of these
+abbrev pub IsOf : CommandSet → Request → Type 0
+IsOf commands r = IsSome (row_of commands.profile commands.kind (slice_index (encoded r) 0))
 
 -- what is written is read again, by a unit that has the command
 abbrev pub ReadsBack : Type 0
-ReadsBack = (kind : Kind) (r : Request) → IsOf kind r → Fits r → decoded kind (encoded r) ≡ Ok r
+ReadsBack = (commands : CommandSet) (r : Request) → IsOf commands r → Fits r → decoded commands (encoded r) ≡ Ok r

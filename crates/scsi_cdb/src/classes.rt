@@ -36,4 +36,14 @@ pub enum Class {
     Release,
     Reserve,
     RegisterAndMove,
+    // Those that only the hosts' profile has.
+    SendDiagnostic,
+    LogSelect,
+    LogSense,
+    /// MODE SELECT(10).
+    ModeSelect10,
+    /// MODE SENSE(10).
+    ModeSense10,
+    ReportSupportedOperationCodes,
+    ReportSupportedTaskManagementFunctions,
 }

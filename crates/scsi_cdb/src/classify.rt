@@ -36,6 +36,7 @@ pub fn class(request: &Request) -> Class
             ..
         } => Class::ReadElementStatusCurdata,
         Request::ReadElementStatus { .. } => Class::ReadElementStatus,
+        Request::Host(command) => command.class(),
     }
 }
 

@@ -6,30 +6,33 @@ ghost use Rattle.scsi_cdb.specs.Encoding.{Fits};
 use crate::changer::{move_medium_at, read_element_status_at};
 use crate::fault::CdbFault;
 use crate::fields::bit_at;
+use crate::host_decoding::{has_host_command, host_fields_of};
 use crate::kind::Kind;
 use crate::layout::*;
 use crate::primary::{
     inquiry_at, mode_select_at, mode_sense_at, prevent_allow_medium_removal_at, report_luns_at,
     request_sense_at, reserve_in_at, reserve_out_at,
 };
+use crate::profile::{CommandSet, Profile};
 use crate::request::Request;
 use crate::tape::{
     load_unload_at, locate_at, read_at, read_position_at, space_at, write_at, write_filemarks_at,
 };
 
-/// The request that the bytes decode to for a unit of the kind. Bytes past the command's length and
+/// The request that the bytes decode to for a unit with these commands. Bytes past the command's length and
 /// bits that are no field are ignored. An empty CDB is `ShortCdb`; else the first of these that
 /// holds is the fault: no such opcode, too few bytes for it, no such service action, NACA.
-pub fn decode(kind: Kind, cdb: &[u8]) -> Result<Request, CdbFault>
-    ensures decoded { result ≡ decoded kind cdb.now }
+pub fn decode(commands: CommandSet, cdb: &[u8]) -> Result<Request, CdbFault>
+    ensures decoded { result ≡ decoded commands cdb.now }
     ensures fits { IfOk result Fits }
 {
+    let CommandSet { profile, kind } = commands;
     let opcode = *cdb.first().ok_or(CdbFault::ShortCdb)?;
-    let length = length_of(kind, opcode).ok_or(CdbFault::Opcode)?;
+    let length = length_of(profile, kind, opcode).ok_or(CdbFault::Opcode)?;
     if cdb.len() < length {
         return Err(CdbFault::ShortCdb);
     }
-    let request = fields_of(opcode, cdb).ok_or(CdbFault::ServiceAction)?;
+    let request = fields_of(profile, opcode, cdb).ok_or(CdbFault::ServiceAction)?;
     if bit_at(cdb, length - 1, NACA_BIT) {
         return Err(CdbFault::Naca);
     }
@@ -38,11 +41,11 @@ pub fn decode(kind: Kind, cdb: &[u8]) -> Result<Request, CdbFault>
 
 /// The length of a CDB, where units of the kind have the command.
 #[tactic(auto, using(crate::proofs::GroupCodes::length_where_had, crate::proofs::GroupCodes::no_length))]
-fn length_of(kind: Kind, opcode: u8) -> Option<usize>
-    ensures length { result ≡ option_map (λ (r : Row). r.length) (row_of kind opcode) }
+fn length_of(profile: Profile, kind: Kind, opcode: u8) -> Option<usize>
+    ensures length { result ≡ option_map (λ (r : Row). r.length) (row_of profile kind opcode) }
     ensures some { IfSome result (λ n. 0 < n) }
 {
-    if has_command(kind, opcode) {
+    if has_command(profile, kind, opcode) {
         Some(length_by_group(opcode))
     } else {
         None
@@ -51,8 +54,8 @@ fn length_of(kind: Kind, opcode: u8) -> Option<usize>
 
 /// Whether units of the kind have the command.
 #[tactic(auto, unfolding(crate::specs::Commands::command_of))]
-fn has_command(kind: Kind, opcode: u8) -> bool
-    ensures { result ≡ is_some (row_of kind opcode) }
+fn has_command(profile: Profile, kind: Kind, opcode: u8) -> bool
+    ensures { result ≡ is_some (row_of profile kind opcode) }
 {
     match opcode {
         TEST_UNIT_READY
@@ -75,7 +78,10 @@ fn has_command(kind: Kind, opcode: u8) -> bool
         | LOAD_UNLOAD
         | LOCATE_10
         | READ_POSITION => kind == Kind::Drive,
-        _ => false,
+        _ => match profile {
+            Profile::Spec => false,
+            Profile::Hosts => has_host_command(kind, opcode),
+        },
     }
 }
 
@@ -93,9 +99,9 @@ fn length_by_group(opcode: u8) -> usize
 
 /// What a CDB of the command says, where its service action is one of the command's own.
 #[tactic(auto, unfolding(crate::specs::Commands::command_of))]
-fn fields_of(opcode: u8, cdb: &[u8]) -> Option<Request>
-    requires { IfSome (command_of opcode) (λ (r : Row). r.length ≤ length cdb.now) }
-    ensures value { result ≡ fields_in (command_of opcode) cdb.now }
+fn fields_of(profile: Profile, opcode: u8, cdb: &[u8]) -> Option<Request>
+    requires { IfSome (command_of profile opcode) (λ (r : Row). r.length ≤ length cdb.now) }
+    ensures value { result ≡ fields_in (command_of profile opcode) cdb.now }
     ensures fits { IfSome result Fits }
 {
     match opcode {
@@ -115,12 +121,15 @@ fn fields_of(opcode: u8, cdb: &[u8]) -> Option<Request>
         LOAD_UNLOAD => Some(load_unload_at(cdb)),
         PREVENT_ALLOW_MEDIUM_REMOVAL => Some(prevent_allow_medium_removal_at(cdb)),
         LOCATE_10 => Some(locate_at(cdb)),
-        READ_POSITION => read_position_at(cdb),
+        READ_POSITION => read_position_at(profile, cdb),
         PERSISTENT_RESERVE_IN => reserve_in_at(cdb),
         PERSISTENT_RESERVE_OUT => reserve_out_at(cdb),
         REPORT_LUNS => Some(report_luns_at(cdb)),
         MOVE_MEDIUM => Some(move_medium_at(cdb)),
         READ_ELEMENT_STATUS => Some(read_element_status_at(cdb)),
-        _ => None,
+        _ => match profile {
+            Profile::Spec => None,
+            Profile::Hosts => host_fields_of(opcode, cdb),
+        },
     }
 }

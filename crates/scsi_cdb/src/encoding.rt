@@ -1,7 +1,8 @@
 ghost use Rattle.std.specs.Prelude.{◌≡◌};
 ghost use Rattle.scsi_cdb.specs.Encoding.{encoded};
 
-use crate::fields::{flag, zero_padded};
+use crate::fields::{flag, page_byte, zero_padded};
+use crate::host_encoding::host_encode;
 use crate::layout::*;
 use crate::request::Request;
 
@@ -76,8 +77,7 @@ pub fn encode(request: &Request) -> [u8; CDB_LENGTH]
             allocation_length,
         } => {
             let flags = flag(DBD_BIT, disable_block_descriptors);
-            let control = page_control & PAGE_CONTROL_BITS;
-            let page = control << PAGE_CONTROL_PLACE | page_code & PAGE_CODE_BITS;
+            let page = page_byte(page_control, page_code);
             zero_padded(&[MODE_SENSE_6, flags, page, subpage_code, allocation_length])
         }
         Request::LoadUnload {
@@ -175,5 +175,6 @@ pub fn encode(request: &Request) -> [u8; CDB_LENGTH]
                 n0,
             ])
         }
+        Request::Host(ref command) => host_encode(command),
     }
 }

@@ -1,10 +1,11 @@
 //! Fields of a CDB by their places, read and written. A single byte past the end reads as 0.
 ghost use Rattle.std.specs.Prelude.{◌≡◌, ◌<◌, ◌≤◌, ◌+◌, ◌^◌, length, pos, neg_ℤ, ◌≤ℤ◌, ◌<ℤ◌};
 ghost use Rattle.scsi_cdb.specs.Bits.{bit, bits, byte, two_bytes, three_bytes, four_bytes, signed_three_bytes};
-ghost use Rattle.scsi_cdb.specs.Encoding.{at, padded};
+ghost use Rattle.scsi_cdb.specs.Bytes.{at, from, padded};
 
 use crate::layout::{
-    CDB_LENGTH, FIRST_NEGATIVE_OF_24_BITS, NUMBERS_OF_24_BITS, SERVICE_ACTION, SERVICE_ACTION_BITS,
+    CDB_LENGTH, FIRST_NEGATIVE_OF_24_BITS, NUMBERS_OF_24_BITS, PAGE_CODE_BITS, PAGE_CONTROL_BITS,
+    PAGE_CONTROL_PLACE, SERVICE_ACTION, SERVICE_ACTION_BITS,
 };
 use byteorder::{BigEndian, ByteOrder};
 
@@ -65,6 +66,14 @@ pub fn service_action_at(cdb: &[u8]) -> u8
     ensures { result ≡ bits cdb.now 1 4 0 }
 {
     byte_at(cdb, SERVICE_ACTION) & SERVICE_ACTION_BITS
+}
+
+/// PC in the high two bits, and the page code below.
+pub fn page_byte(page_control: u8, page_code: u8) -> u8
+    ensures { result ≡ from 7 6 page_control + from 5 0 page_code }
+{
+    let control = page_control & PAGE_CONTROL_BITS;
+    control << PAGE_CONTROL_PLACE | page_code & PAGE_CODE_BITS
 }
 
 /// A field of one bit.

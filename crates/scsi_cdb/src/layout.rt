@@ -48,8 +48,28 @@ pub const MOVE_MEDIUM: u8 = 0xA5;
 
 pub const READ_ELEMENT_STATUS: u8 = 0xB8;
 
+// Operation codes that only the hosts' profile has.
+pub const SEND_DIAGNOSTIC: u8 = 0x1D;
+
+pub const LOG_SELECT: u8 = 0x4C;
+
+pub const LOG_SENSE: u8 = 0x4D;
+
+pub const MODE_SELECT_10: u8 = 0x55;
+
+pub const MODE_SENSE_10: u8 = 0x5A;
+
+pub const MAINTENANCE_IN: u8 = 0xA3;
+
+// Service actions of MAINTENANCE IN.
+pub const REPORT_SUPPORTED_OPERATION_CODES: u8 = 0x0C;
+
+pub const REPORT_SUPPORTED_TASK_MANAGEMENT_FUNCTIONS: u8 = 0x0D;
+
 // Service actions of READ POSITION.
 pub const SHORT_FORM_BLOCK_ID: u8 = 0x00;
+
+pub const SHORT_FORM_VENDOR_SPECIFIC: u8 = 0x01;
 
 // Service actions of PERSISTENT RESERVE IN.
 pub const READ_KEYS: u8 = 0x00;
@@ -139,6 +159,44 @@ pub const PAGE_CODE_BITS: u8 = 0x3F;
 pub const MODE_SENSE_SUBPAGE_CODE: usize = 3;
 
 pub const MODE_SENSE_ALLOCATION_LENGTH: usize = 4;
+
+// MODE SELECT(10), MODE SENSE(10), LOG SELECT and LOG SENSE: the place of their list or allocation length.
+pub const TEN_BYTES_LENGTH: usize = 7;
+
+// SEND DIAGNOSTIC, byte 1, and a place.
+pub const SELF_TEST_CODE_BITS: u8 = 0x07;
+
+pub const SELF_TEST_CODE_PLACE: u8 = 5;
+
+pub const SELFTEST_BIT: u8 = 2;
+
+pub const SEND_DIAGNOSTIC_PARAMETER_LIST_LENGTH: usize = 3;
+
+// LOG SELECT and LOG SENSE, byte 1; then PC and the page code as in MODE SENSE(6); and places.
+pub const PCR_BIT: u8 = 1;
+
+pub const PPC_BIT: u8 = 1;
+
+pub const LOG_PAGE: usize = 2;
+
+pub const LOG_SUBPAGE_CODE: usize = 3;
+
+pub const LOG_PARAMETER_POINTER: usize = 5;
+
+// REPORT SUPPORTED OPERATION CODES and REPORT SUPPORTED TASK MANAGEMENT FUNCTIONS, byte 2, and places.
+pub const REPORT_FLAGS: usize = 2;
+
+pub const RCTD_BIT: u8 = 7;
+
+pub const REPD_BIT: u8 = 7;
+
+pub const REPORTING_OPTIONS_BITS: u8 = 0x07;
+
+pub const REQUESTED_OPERATION_CODE: usize = 3;
+
+pub const REQUESTED_SERVICE_ACTION: usize = 4;
+
+pub const REPORT_ALLOCATION_LENGTH: usize = 6;
 
 // LOAD UNLOAD, byte 4.
 pub const LOAD_UNLOAD_FLAGS: usize = 4;

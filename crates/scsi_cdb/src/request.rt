@@ -1,4 +1,5 @@
 use crate::action::InServiceAction;
+use crate::host_request::HostRequest;
 use crate::service_action::OutServiceAction;
 
 /// A command with its fields, each as the CDB has it. A field of bits is in the low bits of its
@@ -123,4 +124,6 @@ pub enum Request {
         /// 24 bits.
         allocation_length: u32,
     },
+    /// A command that only the hosts' profile has.
+    Host(HostRequest),
 }

@@ -7,6 +7,7 @@ ghost use Rattle.scsi_cdb.specs.declared.request.Request.TheVariants.{Read, Writ
 
 use crate::fields::{bit_at, byte_at, count_at, service_action_at, u24_at, u32_at};
 use crate::layout::*;
+use crate::profile::Profile;
 use crate::request::Request;
 
 pub fn read_at(cdb: &[u8]) -> Request
@@ -78,13 +79,15 @@ pub fn locate_at(cdb: &[u8]) -> Request
     }
 }
 
-/// Other service actions ask for other forms of the answer: this target has one (profile).
-pub fn read_position_at(cdb: &[u8]) -> Option<Request>
-    ensures value { result ≡ read_position (bits cdb.now 1 4 0) }
+/// Other service actions ask for other forms of the answer: this target has the short form, in the hosts' profile by both of its service actions
+/// (profile).
+pub fn read_position_at(profile: Profile, cdb: &[u8]) -> Option<Request>
+    ensures value { result ≡ read_position profile (bits cdb.now 1 4 0) }
     ensures fits { IfSome result Fits }
 {
-    match service_action_at(cdb) {
-        SHORT_FORM_BLOCK_ID => Some(Request::ReadPosition),
+    match (service_action_at(cdb), profile) {
+        (SHORT_FORM_BLOCK_ID, Profile::Spec | Profile::Hosts)
+        | (SHORT_FORM_VENDOR_SPECIFIC, Profile::Hosts) => Some(Request::ReadPosition),
         _ => None,
     }
 }

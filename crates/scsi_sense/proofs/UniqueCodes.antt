@@ -4,13 +4,13 @@ use Rattle.std.specs.List.{find}
 use Rattle.scsi_sense.specs.Conditions.{sense_for, HasCodesOf, IsConditionOf}
 use Rattle.scsi_sense.specs.SenseKeys.{key_code, IsKeyOf}
 use Rattle.scsi_sense.specs.declared.condition.Condition.{Condition}
-use Rattle.scsi_sense.specs.declared.condition.Condition.TheVariants.{NoAdditionalSenseInformation, FilemarkDetected, BeginningOfMediumDetected, InitializingCommandRequired, MediumNotPresent, InternalTargetFailure, ParameterListLengthError, InvalidCommandOperationCode, InvalidElementAddress, InvalidFieldInCdb, LogicalUnitNotSupported, InvalidFieldInParameterList, InvalidReleaseOfPersistentReservation, SavingParametersNotSupported, MediumDestinationElementFull, MediumSourceElementEmpty, MediumRemovalPrevented, InsufficientRegistrationResources, NotReadyToReadyChange, PowerOnOrResetOccurred, BusDeviceResetFunctionOccurred, NexusLossOccurred, ModeParametersChanged, ReservationsPreempted, ReservationsReleased, RegistrationsPreempted, WriteProtected, EndOfDataDetected, EndOfMediumDetected}
+use Rattle.scsi_sense.specs.declared.condition.Condition.TheVariants.{NoAdditionalSenseInformation, FilemarkDetected, BeginningOfMediumDetected, InitializingCommandRequired, MediumNotPresent, InternalTargetFailure, ParameterListLengthError, InvalidCommandOperationCode, InvalidElementAddress, InvalidFieldInCdb, LogicalUnitNotSupported, InvalidFieldInParameterList, InvalidReleaseOfPersistentReservation, SavingParametersNotSupported, MediumDestinationElementFull, MediumSourceElementEmpty, MediumRemovalPrevented, InsufficientRegistrationResources, NotReadyToReadyChange, PowerOnOrResetOccurred, BusDeviceResetFunctionOccurred, NexusLossOccurred, ModeParametersChanged, LogParametersChanged, ReservationsPreempted, ReservationsReleased, RegistrationsPreempted, WriteProtected, EndOfDataDetected, EndOfMediumDetected}
 use Rattle.scsi_sense.specs.declared.sense.Sense.{Sense}
 use Rattle.scsi_sense.specs.declared.sense_key.SenseKey.{SenseKey}
 use Rattle.scsi_sense.specs.declared.sense_key.SenseKey.TheVariants.{NoSense, NotReady, HardwareError, IllegalRequest, UnitAttention, DataProtect, BlankCheck, VolumeOverflow}
 
 abbrev conditions : List Condition
-conditions = NoAdditionalSenseInformation ∷ FilemarkDetected ∷ BeginningOfMediumDetected ∷ InitializingCommandRequired ∷ MediumNotPresent ∷ InternalTargetFailure ∷ ParameterListLengthError ∷ InvalidCommandOperationCode ∷ InvalidElementAddress ∷ InvalidFieldInCdb ∷ LogicalUnitNotSupported ∷ InvalidFieldInParameterList ∷ InvalidReleaseOfPersistentReservation ∷ SavingParametersNotSupported ∷ MediumDestinationElementFull ∷ MediumSourceElementEmpty ∷ MediumRemovalPrevented ∷ InsufficientRegistrationResources ∷ NotReadyToReadyChange ∷ PowerOnOrResetOccurred ∷ BusDeviceResetFunctionOccurred ∷ NexusLossOccurred ∷ ModeParametersChanged ∷ ReservationsPreempted ∷ ReservationsReleased ∷ RegistrationsPreempted ∷ WriteProtected ∷ EndOfDataDetected ∷ EndOfMediumDetected ∷ []
+conditions = NoAdditionalSenseInformation ∷ FilemarkDetected ∷ BeginningOfMediumDetected ∷ InitializingCommandRequired ∷ MediumNotPresent ∷ InternalTargetFailure ∷ ParameterListLengthError ∷ InvalidCommandOperationCode ∷ InvalidElementAddress ∷ InvalidFieldInCdb ∷ LogicalUnitNotSupported ∷ InvalidFieldInParameterList ∷ InvalidReleaseOfPersistentReservation ∷ SavingParametersNotSupported ∷ MediumDestinationElementFull ∷ MediumSourceElementEmpty ∷ MediumRemovalPrevented ∷ InsufficientRegistrationResources ∷ NotReadyToReadyChange ∷ PowerOnOrResetOccurred ∷ BusDeviceResetFunctionOccurred ∷ NexusLossOccurred ∷ ModeParametersChanged ∷ LogParametersChanged ∷ ReservationsPreempted ∷ ReservationsReleased ∷ RegistrationsPreempted ∷ WriteProtected ∷ EndOfDataDetected ∷ EndOfMediumDetected ∷ []
 
 -- the first condition with these codes
 abbrev with_codes : (key asc ascq : ℕ) → Option Condition
@@ -40,6 +40,7 @@ with_codes-sense_for PowerOnOrResetOccurred = refl
 with_codes-sense_for BusDeviceResetFunctionOccurred = refl
 with_codes-sense_for NexusLossOccurred = refl
 with_codes-sense_for ModeParametersChanged = refl
+with_codes-sense_for LogParametersChanged = refl
 with_codes-sense_for ReservationsPreempted = refl
 with_codes-sense_for ReservationsReleased = refl
 with_codes-sense_for RegistrationsPreempted = refl

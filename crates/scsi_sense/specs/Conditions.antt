@@ -1,7 +1,7 @@
 -- The conditions that sense data reports (SPC-4, "Sense key and additional sense code definitions").
 use Rattle.std.specs.Prelude.{◌≡◌, ℕ, ◌==◌, ◌&&◌, Bool, false, Option, Some, MatchOption}
 use Rattle.scsi_sense.specs.declared.condition.Condition.{Condition}
-use Rattle.scsi_sense.specs.declared.condition.Condition.TheVariants.{NoAdditionalSenseInformation, FilemarkDetected, BeginningOfMediumDetected, InitializingCommandRequired, MediumNotPresent, InternalTargetFailure, ParameterListLengthError, InvalidCommandOperationCode, InvalidElementAddress, InvalidFieldInCdb, LogicalUnitNotSupported, InvalidFieldInParameterList, InvalidReleaseOfPersistentReservation, SavingParametersNotSupported, MediumDestinationElementFull, MediumSourceElementEmpty, MediumRemovalPrevented, InsufficientRegistrationResources, NotReadyToReadyChange, PowerOnOrResetOccurred, BusDeviceResetFunctionOccurred, NexusLossOccurred, ModeParametersChanged, ReservationsPreempted, ReservationsReleased, RegistrationsPreempted, WriteProtected, EndOfDataDetected, EndOfMediumDetected}
+use Rattle.scsi_sense.specs.declared.condition.Condition.TheVariants.{NoAdditionalSenseInformation, FilemarkDetected, BeginningOfMediumDetected, InitializingCommandRequired, MediumNotPresent, InternalTargetFailure, ParameterListLengthError, InvalidCommandOperationCode, InvalidElementAddress, InvalidFieldInCdb, LogicalUnitNotSupported, InvalidFieldInParameterList, InvalidReleaseOfPersistentReservation, SavingParametersNotSupported, MediumDestinationElementFull, MediumSourceElementEmpty, MediumRemovalPrevented, InsufficientRegistrationResources, NotReadyToReadyChange, PowerOnOrResetOccurred, BusDeviceResetFunctionOccurred, NexusLossOccurred, ModeParametersChanged, LogParametersChanged, ReservationsPreempted, ReservationsReleased, RegistrationsPreempted, WriteProtected, EndOfDataDetected, EndOfMediumDetected}
 use Rattle.scsi_sense.specs.declared.sense.Sense.{Sense}
 
 -- sense data with a key, an additional sense code and its qualifier, and nothing else
@@ -67,6 +67,7 @@ sense_for PowerOnOrResetOccurred = reports unit_attention 0x29 0x00
 sense_for BusDeviceResetFunctionOccurred = reports unit_attention 0x29 0x03
 sense_for NexusLossOccurred = reports unit_attention 0x29 0x07
 sense_for ModeParametersChanged = reports unit_attention 0x2A 0x01
+sense_for LogParametersChanged = reports unit_attention 0x2A 0x02
 sense_for ReservationsPreempted = reports unit_attention 0x2A 0x03
 sense_for ReservationsReleased = reports unit_attention 0x2A 0x04
 sense_for RegistrationsPreempted = reports unit_attention 0x2A 0x05

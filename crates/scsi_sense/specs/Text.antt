@@ -2,7 +2,7 @@
 -- "Sense key and additional sense code definitions").
 use Rattle.std.specs.Prelude.{ℕ, List, codes}
 use Rattle.scsi_sense.specs.declared.condition.Condition.{Condition}
-use Rattle.scsi_sense.specs.declared.condition.Condition.TheVariants.{NoAdditionalSenseInformation, FilemarkDetected, BeginningOfMediumDetected, InitializingCommandRequired, MediumNotPresent, InternalTargetFailure, ParameterListLengthError, InvalidCommandOperationCode, InvalidElementAddress, InvalidFieldInCdb, LogicalUnitNotSupported, InvalidFieldInParameterList, InvalidReleaseOfPersistentReservation, SavingParametersNotSupported, MediumDestinationElementFull, MediumSourceElementEmpty, MediumRemovalPrevented, InsufficientRegistrationResources, NotReadyToReadyChange, PowerOnOrResetOccurred, BusDeviceResetFunctionOccurred, NexusLossOccurred, ModeParametersChanged, ReservationsPreempted, ReservationsReleased, RegistrationsPreempted, WriteProtected, EndOfDataDetected, EndOfMediumDetected}
+use Rattle.scsi_sense.specs.declared.condition.Condition.TheVariants.{NoAdditionalSenseInformation, FilemarkDetected, BeginningOfMediumDetected, InitializingCommandRequired, MediumNotPresent, InternalTargetFailure, ParameterListLengthError, InvalidCommandOperationCode, InvalidElementAddress, InvalidFieldInCdb, LogicalUnitNotSupported, InvalidFieldInParameterList, InvalidReleaseOfPersistentReservation, SavingParametersNotSupported, MediumDestinationElementFull, MediumSourceElementEmpty, MediumRemovalPrevented, InsufficientRegistrationResources, NotReadyToReadyChange, PowerOnOrResetOccurred, BusDeviceResetFunctionOccurred, NexusLossOccurred, ModeParametersChanged, LogParametersChanged, ReservationsPreempted, ReservationsReleased, RegistrationsPreempted, WriteProtected, EndOfDataDetected, EndOfMediumDetected}
 use Rattle.scsi_sense.specs.declared.sense_key.SenseKey.{SenseKey}
 use Rattle.scsi_sense.specs.declared.sense_key.SenseKey.TheVariants.{NoSense, NotReady, HardwareError, IllegalRequest, UnitAttention, DataProtect, BlankCheck, VolumeOverflow}
 use Rattle.scsi_sense.specs.declared.status.Status.{Status}
@@ -48,6 +48,7 @@ condition_name PowerOnOrResetOccurred = codes "POWER ON, RESET, OR BUS DEVICE RE
 condition_name BusDeviceResetFunctionOccurred = codes "BUS DEVICE RESET FUNCTION OCCURRED"
 condition_name NexusLossOccurred = codes "I_T NEXUS LOSS OCCURRED"
 condition_name ModeParametersChanged = codes "MODE PARAMETERS CHANGED"
+condition_name LogParametersChanged = codes "LOG PARAMETERS CHANGED"
 condition_name ReservationsPreempted = codes "RESERVATIONS PREEMPTED"
 condition_name ReservationsReleased = codes "RESERVATIONS RELEASED"
 condition_name RegistrationsPreempted = codes "REGISTRATIONS PREEMPTED"

@@ -52,6 +52,8 @@ pub enum Condition {
     NexusLossOccurred,
     /// UNIT ATTENTION, 2Ah/01h.
     ModeParametersChanged,
+    /// UNIT ATTENTION, 2Ah/02h.
+    LogParametersChanged,
     /// UNIT ATTENTION, 2Ah/03h.
     ReservationsPreempted,
     /// UNIT ATTENTION, 2Ah/04h.
@@ -101,6 +103,7 @@ impl Condition {
             Condition::BusDeviceResetFunctionOccurred => "BUS DEVICE RESET FUNCTION OCCURRED",
             Condition::NexusLossOccurred => "I_T NEXUS LOSS OCCURRED",
             Condition::ModeParametersChanged => "MODE PARAMETERS CHANGED",
+            Condition::LogParametersChanged => "LOG PARAMETERS CHANGED",
             Condition::ReservationsPreempted => "RESERVATIONS PREEMPTED",
             Condition::ReservationsReleased => "RESERVATIONS RELEASED",
             Condition::RegistrationsPreempted => "REGISTRATIONS PREEMPTED",

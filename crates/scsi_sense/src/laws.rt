@@ -3,7 +3,7 @@ ghost use Rattle.scsi_sense.specs.Conditions.{sense_for, reports, IsConditionOf,
 ghost use Rattle.scsi_sense.specs.FixedSense.{ReadsBack, fixed_sense, decoded_sense};
 ghost use Rattle.scsi_sense.specs.SenseKeys.{key_code, IsKeyOf, OneKeyAtMost};
 ghost use Rattle.scsi_sense.specs.Text.{condition_name, key_name, status_name};
-ghost use Rattle.scsi_sense.specs.declared.condition.Condition.TheVariants.{NoAdditionalSenseInformation, PowerOnOrResetOccurred, RegistrationsPreempted, InvalidReleaseOfPersistentReservation, FilemarkDetected, EndOfDataDetected, NotReadyToReadyChange, InitializingCommandRequired, NexusLossOccurred, BeginningOfMediumDetected, EndOfMediumDetected};
+ghost use Rattle.scsi_sense.specs.declared.condition.Condition.TheVariants.{NoAdditionalSenseInformation, PowerOnOrResetOccurred, ModeParametersChanged, LogParametersChanged, RegistrationsPreempted, InvalidReleaseOfPersistentReservation, FilemarkDetected, EndOfDataDetected, NotReadyToReadyChange, InitializingCommandRequired, NexusLossOccurred, BeginningOfMediumDetected, EndOfMediumDetected};
 ghost use Rattle.scsi_sense.specs.declared.fault.SenseFault.TheVariants.{Short, NotFixed};
 ghost use Rattle.scsi_sense.specs.declared.sense_key.SenseKey.TheVariants.{NoSense, NotReady, HardwareError, IllegalRequest, UnitAttention, DataProtect, BlankCheck, VolumeOverflow};
 ghost use Rattle.scsi_sense.specs.declared.status.Status.TheVariants.{CheckCondition, ReservationConflict};
@@ -33,6 +33,8 @@ pub fn worked_rows()
         ≡ 0x70 ∷ 0 ∷ 0 ∷ 0 ∷ 0 ∷ 0 ∷ 0 ∷ 0x0A ∷ replicate 10 0 }
     ensures first_contact { fixed_sense (sense_for PowerOnOrResetOccurred)
         ≡ 0x70 ∷ 0 ∷ 6 ∷ 0 ∷ 0 ∷ 0 ∷ 0 ∷ 0x0A ∷ 0 ∷ 0 ∷ 0 ∷ 0 ∷ 0x29 ∷ 0 ∷ 0 ∷ 0 ∷ 0 ∷ 0 ∷ [] }
+    ensures log_changed { fixed_sense (sense_for LogParametersChanged)
+        ≡ 0x70 ∷ 0 ∷ 6 ∷ 0 ∷ 0 ∷ 0 ∷ 0 ∷ 0x0A ∷ 0 ∷ 0 ∷ 0 ∷ 0 ∷ 0x2A ∷ 2 ∷ 0 ∷ 0 ∷ 0 ∷ 0 ∷ [] }
     ensures preempted { fixed_sense (sense_for RegistrationsPreempted)
         ≡ 0x70 ∷ 0 ∷ 6 ∷ 0 ∷ 0 ∷ 0 ∷ 0 ∷ 0x0A ∷ 0 ∷ 0 ∷ 0 ∷ 0 ∷ 0x2A ∷ 5 ∷ 0 ∷ 0 ∷ 0 ∷ 0 ∷ [] }
     ensures invalid_release { fixed_sense (sense_for InvalidReleaseOfPersistentReservation)
@@ -81,6 +83,8 @@ pub fn worked_words()
     ensures changed { condition_name NotReadyToReadyChange ≡ codes "NOT READY TO READY CHANGE, MEDIUM MAY HAVE CHANGED" }
     ensures reset { condition_name PowerOnOrResetOccurred ≡ codes "POWER ON, RESET, OR BUS DEVICE RESET OCCURRED" }
     ensures loss { condition_name NexusLossOccurred ≡ codes "I_T NEXUS LOSS OCCURRED" }
+    ensures mode { condition_name ModeParametersChanged ≡ codes "MODE PARAMETERS CHANGED" }
+    ensures log { condition_name LogParametersChanged ≡ codes "LOG PARAMETERS CHANGED" }
     ensures loaded { condition_name InitializingCommandRequired ≡ codes "LOGICAL UNIT NOT READY, INITIALIZING COMMAND REQUIRED" }
     // additional sense code 00h, under two keys and under one that no condition with it has
     ensures at_a_filemark { IsConditionOf (record (sense_for FilemarkDetected) {

@@ -205,8 +205,7 @@ impl<'a, S: SeatService, K: TapeKeeper, R: Wait, E: Write> WorkerService<'a, S, 
         }
     }
 
-    /// Does what a command needs next, with which so many bytes were sent: keeps it or reports it, and notes its record. Where that isn't
-    /// inlined, the answer is copied as a whole, and not field by field.
+    /// Does what a command needs next, with which so many bytes were sent: keeps it or reports it, and notes its record.
     #[inline(never)]
     fn note_command(&mut self, nexus: Nexus, done: &Done<'_>, length: usize)
         ensures { MaySettle S.settles self.old self.new }

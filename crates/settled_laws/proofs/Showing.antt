@@ -10,8 +10,9 @@ use Rattle.tape_medium.specs.Elements.{Elements, Element, element_at, tag_in, ta
 use Rattle.tape_medium.specs.Settling.{unsettled_place, unsettled_elements}
 use Rattle.device_server.specs.Failures.{is_for_drives, is_data_transfer, leaves_to_drives}
 use Rattle.device_server.specs.Settled.{unsettled}
-use Rattle.device_server.specs.View.{DeviceView, Drive, Changer, kind_of, drives_of, held_in}
+use Rattle.device_server.specs.View.{DeviceView, Drive, Changer, kind_of, profile_of, drives_of, held_in}
 use Rattle.device_server.specs.Fields.{field_fault_of}
+use Rattle.device_server.proofs.SameDevice.{drives_profile, changers_profile}
 use Rattle.settled_laws.specs.Alike.{ShowAlike, RefuseAlike}
 use Rattle.settled_laws.proofs.Maps.{same_element, same_tag_in, same_refusal}
 
@@ -20,6 +21,10 @@ use Rattle.settled_laws.proofs.Maps.{same_element, same_tag_in, same_refusal}
 pub kind_unsettled : (d : DeviceView) → kind_of (unsettled d) ≡ kind_of d
 kind_unsettled (Drive d) = refl
 kind_unsettled (Changer e) = refl
+
+profile_unsettled : (d : DeviceView) → profile_of (unsettled d) ≡ profile_of d
+profile_unsettled (Drive d) = drives_profile d _
+profile_unsettled (Changer e) = changers_profile e _
 
 drives_unsettled : (d : DeviceView) → drives_of (unsettled d) ≡ drives_of d
 drives_unsettled (Drive d) = refl
@@ -58,6 +63,7 @@ pub show_alike : ShowAlike
 show_alike one two same =
     record {
       kind = sym (kind_unsettled one) ∙ ap kind_of same ∙ kind_unsettled two;
+      profile = sym (profile_unsettled one) ∙ ap profile_of same ∙ profile_unsettled two;
       drives = sym (drives_unsettled one) ∙ ap drives_of same ∙ drives_unsettled two;
       held = λ place. sym (held_unsettled one place) ∙ ap (λ (d : DeviceView). held_in d place) same ∙ held_unsettled two place;
       leaves = λ r. sym (leaves_unsettled one r) ∙ ap (λ (d : DeviceView). leaves_to_drives d r) same ∙ leaves_unsettled two r;

@@ -8,7 +8,7 @@ use Rattle.device_server.specs.declared.fault.TakeFault.{TakeFault}
 use Rattle.device_server.specs.declared.outcome.Outcome.{Outcome}
 use Rattle.device_server.specs.Failures.{leaves_to_drives}
 use Rattle.device_server.specs.Settled.{SameButSettled}
-use Rattle.device_server.specs.View.{DeviceView, kind_of, drives_of, held_in, field_fault, performed, taken, put, marked, reset_of}
+use Rattle.device_server.specs.View.{DeviceView, kind_of, profile_of, drives_of, held_in, field_fault, performed, taken, put, marked, reset_of}
 
 -- the same volume, but for how many objects of its tape count as unchanged
 abbrev pub SameVolumeButSettled : (one two : Volume) → Type 0
@@ -32,9 +32,10 @@ ChangedAlike (Ok one) (Err fault) = ⊥
 ChangedAlike (Err fault) (Ok two) = ⊥
 ChangedAlike (Err one) (Err two) = one ≡ two
 
--- WHAT THEY SHOW is the same: the kind, the number of data transfer elements, each tag, and which moves are left to the drives
+-- WHAT THEY SHOW is the same: the kind, the profile, the number of data transfer elements, each tag, and which moves are left to the drives
 pub record ShownAlike (one two : DeviceView) : Type 0 where
   pub kind : kind_of one ≡ kind_of two
+  pub profile : profile_of one ≡ profile_of two
   pub drives : drives_of one ≡ drives_of two
   pub held : (place : ℕ) → held_in one place ≡ held_in two place
   pub leaves : (request : Request) → leaves_to_drives one request ≡ leaves_to_drives two request

@@ -13,8 +13,7 @@ ghost use Rattle.supported_commands.specs.Answers.{all_commands, operation_codes
 ghost use Rattle.supported_commands.specs.TaskManagement.{task_management};
 ghost use Rattle.supported_commands.specs.Laws.{ListsEachCode, asked, has_action, has_cdb_length, is_well_formed, has_action_where_due, is_ascending};
 
-/// Law: the operation codes that are listed for a kind of unit are those of its commands in the default profile and of those that it
-/// has besides.
+/// Law: the operation codes that are listed for a kind of unit are those of its commands in the hosts' profile.
 pub fn listed_codes()
     ensures { ListsEachCode }
 {}

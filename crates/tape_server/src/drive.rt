@@ -12,7 +12,7 @@ use crate::positioning::{locate, position_data, space};
 use crate::reading::{read_block, read_blocks};
 use crate::writing::{erase, write_block, write_blocks, write_filemarks};
 use device_server::{BadPlace, DeviceServer, Outcome, Payload, PutFault, TakeFault};
-use scsi_cdb::{Kind, Request};
+use scsi_cdb::{Kind, Profile, Request};
 use scsi_sense::Condition;
 use std::alloc::{AllocError, Global};
 use std::marker::Model;
@@ -102,7 +102,8 @@ impl TapeDrive {
             | Request::PersistentReserveOut { .. }
             | Request::ReportLuns { .. }
             | Request::MoveMedium { .. }
-            | Request::ReadElementStatus { .. } => self.in_bay(alloc, request, bytes),
+            | Request::ReadElementStatus { .. }
+            | Request::Host(_) => self.in_bay(alloc, request, bytes),
         }
     }
 
@@ -211,6 +212,11 @@ impl DeviceServer for TapeDrive {
 
     fn kind(&self) -> Kind {
         Kind::Drive
+    }
+
+    #[tactic(auto, unfolding(device_server::specs::View::profile_of))]
+    fn profile(&self) -> Profile {
+        Profile::Spec
     }
 
     fn drives(&self) -> u16 {
@@ -354,8 +360,7 @@ fn on_tape(
         | Request::PersistentReserveOut { .. }
         | Request::ReportLuns { .. }
         | Request::MoveMedium { .. }
-        | Request::ReadElementStatus { .. } => {
-            Ok(Outcome::check(alloc, Condition::InvalidCommandOperationCode))
-        }
+        | Request::ReadElementStatus { .. }
+        | Request::Host(_) => { Ok(Outcome::check(alloc, Condition::InvalidCommandOperationCode)) }
     }
 }

@@ -4,7 +4,8 @@ use Rattle.std.proofs.lemmas.Bool.Decides.{nat_tests}
 use Rattle.std.proofs.lemmas.List.{length-set}
 use Rattle.std.specs.Prelude.{◌⊎◌, cond, nat_le, nat_eq, slice_get, slice_set, IsOk}
 use Rattle.std.specs.Cmp.Lexicographic.{pointwise}
-use Rattle.scsi_cdb.specs.declared.kind.Kind.{Kind}
+use Rattle.scsi_cdb.specs.declared.profile.CommandSet.{CommandSet}
+use Rattle.scsi_cdb.specs.declared.profile.Profile.{Profile}
 use Rattle.scsi_cdb.specs.declared.kind.Kind.TheVariants as kind
 use Rattle.scsi_nexus.specs.declared.nexus.Nexus.{Nexus}
 use Rattle.scsi_sense.specs.declared.condition.Condition.{Condition}
@@ -12,8 +13,9 @@ use Rattle.audit_log.specs.declared.record.Record.{Record}
 use Rattle.tape_medium.specs.declared.volume.Volume.{Volume}
 use Rattle.tape_medium.specs.declared.volume.VolumeTag.{VolumeTag}
 use Rattle.device_server.specs.Marks.{marks, KeepsMarks}
-use Rattle.device_server.specs.View.{DeviceView, Drive, Changer, kind_of, drives_of, held_in, marked}
+use Rattle.device_server.specs.View.{DeviceView, Drive, Changer, kind_of, profile_of, commands_of, drives_of, held_in, marked}
 use Rattle.device_server.specs.declared.fault.BadPlace.{BadPlace}
+use Rattle.device_server.proofs.SameDevice.{same_commands}
 use Rattle.device_server.proofs.MarkLemmas.{drives_give, drives_get, changers_give, changers_get, marks_one, each_is_marked}
 use Rattle.judgement.specs.declared.reply.Reply.{Reply}
 use Rattle.logical_unit.specs.Move.{TwoDrives, noting, unloaded, loaded, passed, carried_by_one, carried_one, upward, downward, carried_two, route_at, MovesOne, MovesTwo, IsSameUnit}
@@ -28,24 +30,24 @@ use Rattle.logical_unit.proofs.Moved.{Became, one_became, two_became}
 use Rattle.logical_unit.proofs.NamedDrives.{HasRoute, AreNamed, has_route, drive_within, named_two}
 use Rattle.logical_unit.proofs.SameUnits.{noting_same, one_same, two_same}
 use Rattle.target_core.proofs.Places.{same_some}
-use Rattle.target_core.specs.Faults.{is_drive, is_changer, are_drives, same_mark, agree, fault_of}
+use Rattle.target_core.specs.Faults.{is_drive_of, is_changer, are_drives, same_mark, agree, fault_of}
 use Rattle.target_core.specs.Run.{AtUnit, AtDrive, AtDrives, MovesWith, MovesBetween, CommandsNaming, CommandsAt, LosesAt, ResetsAt, DrainsAt}
 use Rattle.target_core.specs.declared.order.CoreFault.TheVariants.{Count, Order, Disagree}
-use Rattle.target_core.proofs.History.{get-set_other, loss_kind, reset_kind, loss_marks, reset_marks}
+use Rattle.target_core.proofs.History.{get-set_other, loss_commands, reset_commands, loss_marks, reset_marks}
 use Rattle.target_core.proofs.Ordered.{both, IsOrdered, ordered, one_named, two_named}
 use Rattle.target_core.proofs.SamePlace.{place_of, executes_place, loss_place, reset_place}
 
--- what the order of units looks at: the kind of each, its number, and how many units it was made with
-abbrev look_of : UnitView → Kind × (ℕ × ℕ)
-look_of u = (kind_of u.device, place_of u.state)
+-- what the order of units looks at: the commands of each, its number, and how many units it was made with
+abbrev look_of : UnitView → CommandSet × (ℕ × ℕ)
+look_of u = (commands_of u.device, place_of u.state)
 
 -- a unit that looks as the one whose place it takes leaves the order of the drives
-set_drives : (us : List UnitView) (i : ℕ) (w x : UnitView) (from count : ℕ) → slice_get us i ≡ Some w → look_of x ≡ look_of w → are_drives (slice_set us i x) from count ≡ are_drives us from count
-set_drives [] i w x from count here same = refl
-set_drives (z ∷ us) zero w x from count here same =
-    ap (λ (l : Kind × (ℕ × ℕ)). is_drive l.0 && (l.1.0 == from && (l.1.1 == count && are_drives us (from + 1) count))) (same ∙ ap look_of (sym (same_some z w here)))
-set_drives (z ∷ us) (suc i) w x from count here same =
-    ap (λ b. is_drive (kind_of z.device) && (z.state.lun == from && (z.state.units == count && b))) (set_drives us i w x (from + 1) count here same)
+set_drives : (p : Profile) (us : List UnitView) (i : ℕ) (w x : UnitView) (from count : ℕ) → slice_get us i ≡ Some w → look_of x ≡ look_of w → are_drives p (slice_set us i x) from count ≡ are_drives p us from count
+set_drives p [] i w x from count here same = refl
+set_drives p (z ∷ us) zero w x from count here same =
+    ap (λ (l : CommandSet × (ℕ × ℕ)). is_drive_of p l.0 && (l.1.0 == from && (l.1.1 == count && are_drives p us (from + 1) count))) (same ∙ ap look_of (sym (same_some z w here)))
+set_drives p (z ∷ us) (suc i) w x from count here same =
+    ap (λ b. is_drive_of p (commands_of z.device) && (z.state.lun == from && (z.state.units == count && b))) (set_drives p us i w x (from + 1) count here same)
 
 -- two units that are set, in either order
 pub set_swap : (xs : List UnitView) (i j : ℕ) (x y : UnitView) → i ≢ j → slice_set (slice_set xs i x) j y ≡ slice_set (slice_set xs j y) i x
@@ -104,33 +106,33 @@ no_fault c ds o =
     let one : nat_le 1 (length ds) ≡ true = let h = o.some in grind (arith, nat_tests) in
     let four : nat_le (length ds) 4 ≡ true = let h = o.few in grind (arith, nat_tests) in
     fault_none (nat_le 1 (length ds) && nat_le (length ds) 4) _ (agree (marks c.device) ds) (ap (λ b. b && nat_le (length ds) 4) one ∙ four)
-    (ap (λ k. is_changer k && (c.state.lun == 0 && (c.state.units == length ds + 1 && are_drives ds 1 (length ds + 1)))) o.kind
-    ∙ ap (λ b. b && (c.state.units == length ds + 1 && are_drives ds 1 (length ds + 1))) o.lun ∙ ap (λ b. b && are_drives ds 1 (length ds + 1)) o.units ∙ o.places)
+    (ap (λ k. is_changer k && (c.state.lun == 0 && (c.state.units == length ds + 1 && are_drives (profile_of c.device) ds 1 (length ds + 1)))) o.kind
+    ∙ ap (λ b. b && (c.state.units == length ds + 1 && are_drives (profile_of c.device) ds 1 (length ds + 1))) o.lun ∙ ap (λ b. b && are_drives (profile_of c.device) ds 1 (length ds + 1)) o.units ∙ o.places)
     o.marked
 
 -- other units that look the same, with marks that are true
-pub ordered_set : (c v : UnitView) (ds es : List UnitView) → IsOrdered c ds → look_of v ≡ look_of c → length es ≡ length ds → are_drives es 1 (length ds + 1) ≡ true → agree (marks v.device) es ≡ true → IsOrdered v es
+pub ordered_set : (c v : UnitView) (ds es : List UnitView) → IsOrdered c ds → look_of v ≡ look_of c → length es ≡ length ds → are_drives (profile_of c.device) es 1 (length ds + 1) ≡ true → agree (marks v.device) es ≡ true → IsOrdered v es
 ordered_set c v ds es o look l places marked = record {
   some = let h = o.some in subst (λ n. 1 ≤ n) (sym l) h;
   few = let h = o.few in subst (λ n. n ≤ 4) (sym l) h;
-  kind = ap (λ (x : Kind × (ℕ × ℕ)). x.0) look ∙ o.kind;
-  lun = ap (λ (x : Kind × (ℕ × ℕ)). x.1.0 == 0) look ∙ o.lun;
-  units = ap (λ n. v.state.units == n + 1) l ∙ ap (λ (x : Kind × (ℕ × ℕ)). x.1.1 == length ds + 1) look ∙ o.units;
-  places = ap (λ n. are_drives es 1 (n + 1)) l ∙ places;
+  kind = ap (λ (x : CommandSet × (ℕ × ℕ)). x.0.kind) look ∙ o.kind;
+  lun = ap (λ (x : CommandSet × (ℕ × ℕ)). x.1.0 == 0) look ∙ o.lun;
+  units = ap (λ n. v.state.units == n + 1) l ∙ ap (λ (x : CommandSet × (ℕ × ℕ)). x.1.1 == length ds + 1) look ∙ o.units;
+  places = ap (λ (x : CommandSet × (ℕ × ℕ)). are_drives x.0.profile es 1 (length es + 1)) look ∙ ap (λ n. are_drives (profile_of c.device) es 1 (n + 1)) l ∙ places;
   marked = marked;
 }
 
 drive_set : (c v : UnitView) (ds : List UnitView) (i : ℕ) (d e : UnitView) → IsOrdered c ds → slice_get ds i ≡ Some d → look_of v ≡ look_of c → look_of e ≡ look_of d → agree (marks v.device) (slice_set ds i e) ≡ true → IsOrdered v (slice_set ds i e)
-drive_set c v ds i d e o there look same marked = ordered_set c v ds (slice_set ds i e) o look (length-set ds i e) (set_drives ds i d e 1 (length ds + 1) there same ∙ o.places) marked
+drive_set c v ds i d e o there look same marked = ordered_set c v ds (slice_set ds i e) o look (length-set ds i e) (set_drives (profile_of c.device) ds i d e 1 (length ds + 1) there same ∙ o.places) marked
 
 drives_set : (c v : UnitView) (ds : List UnitView) (i j : ℕ) (d e f g : UnitView) → IsOrdered c ds → i ≢ j → slice_get ds i ≡ Some d → slice_get ds j ≡ Some f → look_of v ≡ look_of c → look_of e ≡ look_of d → look_of g ≡ look_of f
     → agree (marks v.device) (slice_set (slice_set ds i e) j g) ≡ true → IsOrdered v (slice_set (slice_set ds i e) j g)
 drives_set c v ds i j d e f g o apart first second look one two marked =
     ordered_set c v ds (slice_set (slice_set ds i e) j g) o look (length-set (slice_set ds i e) j g ∙ length-set ds i e)
-    (set_drives (slice_set ds i e) j f g 1 (length ds + 1) (get-set_other ds i j e apart ∙ second) two ∙ set_drives ds i d e 1 (length ds + 1) first one ∙ o.places) marked
+    (set_drives (profile_of c.device) (slice_set ds i e) j f g 1 (length ds + 1) (get-set_other ds i j e apart ∙ second) two ∙ set_drives (profile_of c.device) ds i d e 1 (length ds + 1) first one ∙ o.places) marked
 
 same_look : (u v : UnitView) → IsSameUnit u v → look_of v ≡ look_of u
-same_look u v s = ap (λ k. (k, place_of v.state)) s.device.kind ∙ ap (λ l. (kind_of u.device, (l, v.state.units))) s.lun ∙ ap (λ n. (kind_of u.device, (u.state.lun, n))) s.units
+same_look u v s = ap (λ k. (k, place_of v.state)) (same_commands u.device v.device s.device) ∙ ap (λ l. (commands_of u.device, (l, v.state.units))) s.lun ∙ ap (λ n. (commands_of u.device, (u.state.lun, n))) s.units
 
 -- ONE UNIT CHANGES, and its marks stay
 unit_changed : (us : List UnitView) (at : ℕ) (w x : UnitView) → slice_get us at ≡ Some w → look_of x ≡ look_of w → KeepsMarks w.device x.device → fault_of us ≡ None → fault_of (slice_set us at x) ≡ None
@@ -149,7 +151,7 @@ changed us ms at w x there is look state h = ap fault_of is ∙ unit_changed us 
 alone_order : (us ms : List UnitView) (at : ℕ) (w : UnitView) (n : Nexus) (cdb bytes : List ℕ) (r : Reply) → slice_get us at ≡ Some w → AtUnit us at (Executes w n cdb bytes) (ms, r) → fault_of us ≡ None → fault_of ms ≡ None
 alone_order us ms at w n cdb bytes r there a h =
     let stays = executes_stays w a.unit n cdb bytes r a.step in
-    changed us ms at w a.unit there a.units (ap (λ k. (k, place_of a.unit.state)) stays.device.kind ∙ ap (λ p. (kind_of w.device, p)) (executes_place w a.unit n cdb bytes r a.step)) (executes_marks w a.unit n cdb bytes r a.step) h
+    changed us ms at w a.unit there a.units (ap (λ k. (k, place_of a.unit.state)) (same_commands w.device a.unit.device stays.device) ∙ ap (λ p. (commands_of w.device, p)) (executes_place w a.unit n cdb bytes r a.step)) (executes_marks w a.unit n cdb bytes r a.step) h
 
 -- A MOVE sets the marks that it makes true
 noted_mark : (device : DeviceView) (k : ℕ) (tag : Option VolumeTag) (o : Result DeviceView BadPlace) → marked device (suc k + 0xFF) tag ≡ o → IsOk o → marks (elim o [ Ok after ↦ after | Err fault ↦ device ]) ≡ slice_set (marks device) k tag
@@ -238,7 +240,7 @@ module _ (c : UnitView) (ds : List UnitView) (o : IsOrdered c ds) (r : Route) wh
 
 -- WITH THE DRIVES THAT ARE NAMED
 module _ (c : UnitView) (ds : List UnitView) (o : IsOrdered c ds) (n : Nexus) (cdb bytes : List ℕ) (r : Reply) where
-  one_marked : (k : ℕ) (d v e : UnitView) → slice_get ds k ≡ Some d → named (drives_of c.device) cdb ≡ suc k ∷ [] → Became c v n cdb bytes r d e (carried_one c.device d (route_at c cdb)) → agree (marks v.device) (slice_set ds k e) ≡ true
+  one_marked : (k : ℕ) (d v e : UnitView) → slice_get ds k ≡ Some d → named (commands_of c.device) (drives_of c.device) cdb ≡ suc k ∷ [] → Became c v n cdb bytes r d e (carried_one c.device d (route_at c cdb)) → agree (marks v.device) (slice_set ds k e) ≡ true
   one_marked k d v e there names (inl alone) =
       ap (λ (ms : List (Option VolumeTag)). agree ms (slice_set ds k e)) (executes_marks c v n cdb bytes r alone.0).marks
       ∙ agree_drive (marks c.device) ds k d e there (ap (λ (u : UnitView). held_in u.device 0) alone.1) ∙ o.marked
@@ -251,7 +253,7 @@ module _ (c : UnitView) (ds : List UnitView) (o : IsOrdered c ds) (n : Nexus) (c
       ap (λ (x : UnitView × Reply). agree (marks x.0.device) (slice_set ds k e)) moved.ends.unit
       ∙ by_one_agrees c ds o q.route k d e moved.device q.route.from q.route.to q.decodes.from q.decodes.to q.names is
 
-  one_order : (k : ℕ) (d : UnitView) (ms : List UnitView) → slice_get ds k ≡ Some d → named (drives_of c.device) cdb ≡ suc k ∷ [] → AtDrive (c ∷ ds) (suc k) (MovesOne c d n cdb bytes) (ms, r) → fault_of ms ≡ None
+  one_order : (k : ℕ) (d : UnitView) (ms : List UnitView) → slice_get ds k ≡ Some d → named (commands_of c.device) (drives_of c.device) cdb ≡ suc k ∷ [] → AtDrive (c ∷ ds) (suc k) (MovesOne c d n cdb bytes) (ms, r) → fault_of ms ≡ None
   one_order k d ms there names a =
       let same = one_same c d a.changer a.other n cdb bytes r (suc k) [] names a.step in
       ap fault_of a.units
@@ -273,7 +275,7 @@ module _ (c : UnitView) (ds : List UnitView) (o : IsOrdered c ds) (n : Nexus) (c
       let low = drive_within (drives_of c.device) q.route.destination (suc i) (sym q.decodes.to ∙ down.to_is) in
       downward_agrees c ds o q.route i j ds' es device (passed c.device ds'.high ds'.low q.route) apart high.2 low.2 low.1 high.1 refl (sym (ap (by_way ds' q.route) down.way) ∙ h)
 
-  module _ (i j : ℕ) (ds' : TwoDrives) (low : slice_get ds i ≡ Some ds'.low) (high : slice_get ds j ≡ Some ds'.high) (more : List ℕ) (names : named (drives_of c.device) cdb ≡ suc i ∷ suc j ∷ more) where
+  module _ (i j : ℕ) (ds' : TwoDrives) (low : slice_get ds i ≡ Some ds'.low) (high : slice_get ds j ≡ Some ds'.high) (more : List ℕ) (names : named (commands_of c.device) (drives_of c.device) cdb ≡ suc i ∷ suc j ∷ more) where
     apart : i ≢ j
     apart = λ e.
         let q = has_route c.device cdb (suc i) (suc j ∷ more) names in
@@ -306,12 +308,12 @@ module _ (c : UnitView) (ds : List UnitView) (o : IsOrdered c ds) (n : Nexus) (c
         (two_marked a.changer a.drives (two_became c a.changer ds' a.drives n cdb bytes r (suc i) (suc j ∷ more) names a.step)))
 
 -- a move with one drive, which is at its place or isn't there
-with_order : (c : UnitView) (ds ms : List UnitView) (l : ℕ) (n : Nexus) (cdb bytes : List ℕ) (r : Reply) (d : Option UnitView) → slice_get (c ∷ ds) l ≡ d → named (drives_of c.device) cdb ≡ l ∷ [] → MovesWith (c ∷ ds) c l d n cdb bytes (ms, r) → fault_of (c ∷ ds) ≡ None → fault_of ms ≡ None
+with_order : (c : UnitView) (ds ms : List UnitView) (l : ℕ) (n : Nexus) (cdb bytes : List ℕ) (r : Reply) (d : Option UnitView) → slice_get (c ∷ ds) l ≡ d → named (commands_of c.device) (drives_of c.device) cdb ≡ l ∷ [] → MovesWith (c ∷ ds) c l d n cdb bytes (ms, r) → fault_of (c ∷ ds) ≡ None → fault_of ms ≡ None
 with_order c ds ms l n cdb bytes r None there names step h = alone_order (c ∷ ds) ms 0 c n cdb bytes r refl step h
 with_order c ds ms zero n cdb bytes r (Some d) there names step h = let w = one_named c.device cdb zero names in absurd (omega (arith, w.0))
 with_order c ds ms (suc k) n cdb bytes r (Some d) there names step h = one_order c ds (ordered c ds h) n cdb bytes r k d ms there names step
 
-between_order : (c : UnitView) (ds ms : List UnitView) (l m : ℕ) (more : List ℕ) (n : Nexus) (cdb bytes : List ℕ) (r : Reply) (d e : Option UnitView) → slice_get (c ∷ ds) l ≡ d → slice_get (c ∷ ds) m ≡ e → named (drives_of c.device) cdb ≡ l ∷ m ∷ more
+between_order : (c : UnitView) (ds ms : List UnitView) (l m : ℕ) (more : List ℕ) (n : Nexus) (cdb bytes : List ℕ) (r : Reply) (d e : Option UnitView) → slice_get (c ∷ ds) l ≡ d → slice_get (c ∷ ds) m ≡ e → named (commands_of c.device) (drives_of c.device) cdb ≡ l ∷ m ∷ more
     → MovesBetween (c ∷ ds) c l m d e n cdb bytes (ms, r) → fault_of (c ∷ ds) ≡ None → fault_of ms ≡ None
 between_order c ds ms zero m more n cdb bytes r d e first second names step h = let w = two_named c.device cdb zero m more names in absurd (omega (arith, w.0))
 between_order c ds ms (suc i) zero more n cdb bytes r d e first second names step h = let w = two_named c.device cdb (suc i) zero more names in absurd (omega (arith, w.1))
@@ -319,7 +321,7 @@ between_order c ds ms (suc i) (suc j) more n cdb bytes r (Some d) (Some e) first
 between_order c ds ms (suc i) (suc j) more n cdb bytes r None e first second names step h = alone_order (c ∷ ds) ms 0 c n cdb bytes r refl step h
 between_order c ds ms (suc i) (suc j) more n cdb bytes r (Some d) None first second names step h = alone_order (c ∷ ds) ms 0 c n cdb bytes r refl step h
 
-naming_order : (c : UnitView) (ds ms : List UnitView) (names : List ℕ) (n : Nexus) (cdb bytes : List ℕ) (r : Reply) → named (drives_of c.device) cdb ≡ names → CommandsNaming (c ∷ ds) c names n cdb bytes (ms, r) → fault_of (c ∷ ds) ≡ None → fault_of ms ≡ None
+naming_order : (c : UnitView) (ds ms : List UnitView) (names : List ℕ) (n : Nexus) (cdb bytes : List ℕ) (r : Reply) → named (commands_of c.device) (drives_of c.device) cdb ≡ names → CommandsNaming (c ∷ ds) c names n cdb bytes (ms, r) → fault_of (c ∷ ds) ≡ None → fault_of ms ≡ None
 naming_order c ds ms [] n cdb bytes r is step h = alone_order (c ∷ ds) ms 0 c n cdb bytes r refl step h
 naming_order c ds ms (l ∷ []) n cdb bytes r is step h = with_order c ds ms l n cdb bytes r (slice_get (c ∷ ds) l) refl is step h
 naming_order c ds ms (l ∷ m ∷ more) n cdb bytes r is step h = between_order c ds ms l m more n cdb bytes r (slice_get (c ∷ ds) l) (slice_get (c ∷ ds) m) refl refl is step h
@@ -331,19 +333,19 @@ commands_order us ms (suc k) n cdb bytes r (Some w) there step h = alone_order u
 commands_order [] ms zero n cdb bytes r (Some w) there step h = absurd cc
 commands_order (c ∷ ds) ms zero n cdb bytes r (Some w) there step h =
     let is : w ≡ c = same_some w c (sym there) in
-    naming_order c ds ms (named (drives_of c.device) cdb) n cdb bytes r refl (subst (λ (u : UnitView). CommandsNaming (c ∷ ds) u (named (drives_of u.device) cdb) n cdb bytes (ms, r)) is step) h
+    naming_order c ds ms (named (commands_of c.device) (drives_of c.device) cdb) n cdb bytes r refl (subst (λ (u : UnitView). CommandsNaming (c ∷ ds) u (named (commands_of u.device) (drives_of u.device) cdb) n cdb bytes (ms, r)) is step) h
 
 pub loses_order : (us ms : List UnitView) (at : ℕ) (n : Nexus) (r : Reply) (o : Option UnitView) → slice_get us at ≡ o → LosesAt us at o n (ms, r) → fault_of us ≡ None → fault_of ms ≡ None
 loses_order us ms at n r None there step h = ap (λ (x : List UnitView × Reply). fault_of x.0) step ∙ h
 loses_order us ms at n r (Some w) there step h =
-    changed us ms at w step.unit there step.units (ap (λ k. (k, place_of step.unit.state)) (loss_kind w step.unit n r step.step) ∙ ap (λ p. (kind_of w.device, p)) (loss_place w step.unit n r step.step)) (loss_marks w step.unit n r step.step) h
+    changed us ms at w step.unit there step.units (ap (λ k. (k, place_of step.unit.state)) (loss_commands w step.unit n r step.step) ∙ ap (λ p. (commands_of w.device, p)) (loss_place w step.unit n r step.step)) (loss_marks w step.unit n r step.step) h
 
 pub resets_order : (us ms : List UnitView) (at : ℕ) (r : Reply) (o : Option UnitView) → slice_get us at ≡ o → ResetsAt us at o (ms, r) → fault_of us ≡ None → fault_of ms ≡ None
 resets_order us ms at r None there step h = ap (λ (x : List UnitView × Reply). fault_of x.0) step ∙ h
 resets_order us ms at r (Some w) there step h =
-    changed us ms at w step.unit there step.units (ap (λ k. (k, place_of step.unit.state)) (reset_kind w step.unit r step.step) ∙ ap (λ p. (kind_of w.device, p)) (reset_place w step.unit r step.step)) (reset_marks w step.unit r step.step) h
+    changed us ms at w step.unit there step.units (ap (λ k. (k, place_of step.unit.state)) (reset_commands w step.unit r step.step) ∙ ap (λ p. (commands_of w.device, p)) (reset_place w step.unit r step.step)) (reset_marks w step.unit r step.step) h
 
 pub drains_order : (us ms : List UnitView) (at : ℕ) (entries : Option (List Record)) (o : Option UnitView) → slice_get us at ≡ o → DrainsAt us at o (ms, entries) → fault_of us ≡ None → fault_of ms ≡ None
 drains_order us ms at entries None there step h = ap (λ (x : List UnitView × Option (List Record)). fault_of x.0) step ∙ h
 drains_order us ms at entries (Some w) there step h =
-    changed us ms at w (drained w) there (ap (λ (x : List UnitView × Option (List Record)). x.0) step.0) refl (record { device = record { kind = refl; drives = refl }; marks = refl }) h
+    changed us ms at w (drained w) there (ap (λ (x : List UnitView × Option (List Record)). x.0) step.0) refl (record { device = record { kind = refl; profile = refl; drives = refl }; marks = refl }) h

@@ -2,8 +2,9 @@
 use Rattle.std.proofs.Common.{◌≡◌, ◌≤◌, ◌<◌, ◌-◌, ℕ, zero, suc, List, [], ◌∷◌, ◌++◌, length, get_or, Option, Some, None, refl, sym, ap, ◌∙◌, subst, arith}
 use Rattle.std.proofs.lemmas.List.{length-map}
 use Rattle.std.specs.Prelude.{slice_get, slice_set, slice_index_or}
+use Rattle.scsi_cdb.specs.declared.profile.CommandSet.{CommandSet}
 use Rattle.scsi_nexus.specs.declared.nexus.Nexus.{Nexus}
-use Rattle.device_server.specs.View.{drives_of}
+use Rattle.device_server.specs.View.{commands_of, drives_of}
 use Rattle.judgement.specs.declared.reply.Reply.{Reply}
 use Rattle.logical_unit.specs.Move.{TwoDrives, MovesOne, MovesTwo}
 use Rattle.logical_unit.specs.Route.{named}
@@ -15,11 +16,11 @@ use Rattle.target_core.proofs.Ordered.{ordered, has_drives, drive_of, one_named,
 use Rattle.target_core.proofs.Places.{placed, units_of-set}
 
 -- the drives that a CDB names, by how many units there are
-names_in : (c : UnitView) (ds : List UnitView) (cdb names : List ℕ) → fault_of (c ∷ ds) ≡ None → named (length ds) cdb ≡ names → NamesAt (c ∷ ds) cdb names
-names_in c ds cdb names h is = ap (λ k. named k cdb) (has_drives c ds (ordered c ds h)) ∙ is
+names_in : (c : UnitView) (ds : List UnitView) (commands : CommandSet) (cdb names : List ℕ) → fault_of (c ∷ ds) ≡ None → commands ≡ commands_of c.device → named commands (length ds) cdb ≡ names → NamesAt (c ∷ ds) cdb names
+names_in c ds commands cdb names h same is = ap (λ k. named (commands_of c.device) k cdb) (has_drives c ds (ordered c ds h)) ∙ ap (λ (s : CommandSet). named s (length ds) cdb) (sym same) ∙ is
 
-pub names_at : (z : UnitWithRoom) (back : List UnitWithRoom) (cdb names : List ℕ) → fault_of (units_of (z ∷ back)) ≡ None → named (length back) cdb ≡ names → NamesAt (units_of (z ∷ back)) cdb names
-names_at z back cdb names h is = names_in z.unit (units_of back) cdb names h (ap (λ k. named k cdb) (length-map back (λ (u : UnitWithRoom). u.unit)) ∙ is)
+pub names_at : (z : UnitWithRoom) (back : List UnitWithRoom) (commands : CommandSet) (cdb names : List ℕ) → fault_of (units_of (z ∷ back)) ≡ None → commands ≡ commands_of z.unit.device → named commands (length back) cdb ≡ names → NamesAt (units_of (z ∷ back)) cdb names
+names_at z back commands cdb names h same is = names_in z.unit (units_of back) commands cdb names h same (ap (λ k. named commands k cdb) (length-map back (λ (u : UnitWithRoom). u.unit)) ∙ is)
 
 -- and they are among them
 pub one_within : (z : UnitWithRoom) (back : List UnitWithRoom) (cdb : List ℕ) (l : ℕ) → fault_of (units_of (z ∷ back)) ≡ None → NamesAt (units_of (z ∷ back)) cdb (l ∷ []) → (1 ≤ l) × (l ≤ length back)
@@ -67,7 +68,7 @@ module _ (z : UnitWithRoom) (back : List UnitWithRoom) (h : fault_of (units_of (
   lun_at : (k : ℕ) (d : UnitWithRoom) → k < length back → (slice_index_or back k d).unit.state.lun ≡ suc k
   lun_at k d within = (drive_of z.unit (units_of back) k (slice_index_or back k d).unit (ordered z.unit (units_of back) h) (placed back k d within)).lun ∙ omega arith
 
-  pub one_asked : (cdb : List ℕ) (k : ℕ) (d : UnitWithRoom) → k < length back → NamesAt (units_of (z ∷ back)) cdb (suc k ∷ []) → named (drives_of z.unit.device) cdb ≡ (slice_index_or back k d).unit.state.lun ∷ []
+  pub one_asked : (cdb : List ℕ) (k : ℕ) (d : UnitWithRoom) → k < length back → NamesAt (units_of (z ∷ back)) cdb (suc k ∷ []) → named (commands_of z.unit.device) (drives_of z.unit.device) cdb ≡ (slice_index_or back k d).unit.state.lun ∷ []
   one_asked cdb k d within names = names ∙ ap lun_of (sym (lun_at k d within))
 
   pub one_moved : (n : Nexus) (cdb bytes : List ℕ) (k : ℕ) (d v e : UnitWithRoom) (r : Reply) → k < length back → NamesAt (units_of (z ∷ back)) cdb (suc k ∷ [])
@@ -80,7 +81,7 @@ module _ (z : UnitWithRoom) (back : List UnitWithRoom) (h : fault_of (units_of (
       (subst (λ (o : Option UnitView). MovesWith us z.unit (suc k) o n cdb bytes (units_of (v ∷ slice_set back k e), r)) (sym (placed back k d within)) at)
 
   pub two_asked : (cdb : List ℕ) (i j : ℕ) (d e : UnitWithRoom) → i < length back → j < length back → NamesAt (units_of (z ∷ back)) cdb (suc i ∷ suc j ∷ [])
-      → named (drives_of z.unit.device) cdb ≡ (slice_index_or back i d).unit.state.lun ∷ (slice_index_or back j e).unit.state.lun ∷ []
+      → named (commands_of z.unit.device) (drives_of z.unit.device) cdb ≡ (slice_index_or back i d).unit.state.lun ∷ (slice_index_or back j e).unit.state.lun ∷ []
   two_asked cdb i j d e low high names = names ∙ ap (λ l. luns_of l (suc j)) (sym (lun_at i d low)) ∙ ap (luns_of (slice_index_or back i d).unit.state.lun) (sym (lun_at j e high))
 
   pub two_moved : (n : Nexus) (cdb bytes : List ℕ) (i j : ℕ) (d e v f g : UnitWithRoom) (r : Reply) → i < length back → j < length back → NamesAt (units_of (z ∷ back)) cdb (suc i ∷ suc j ∷ [])
@@ -135,7 +136,7 @@ parts_set (x ∷ xs) ys (suc i) (suc j) f g low same = ap (λ (zs : List UnitWit
 -- drives in two parts, the higher of two at the head of the second
 pub asked_in_parts : (z : UnitWithRoom) (all lower upper : List UnitWithRoom) (cdb : List ℕ) (low high : ℕ) (d e : UnitWithRoom) → fault_of (units_of (z ∷ all)) ≡ None → all ≡ lower ++ upper → length lower ≡ high - 1
     → 1 ≤ low → low < high → high ≤ length all → NamesAt (units_of (z ∷ all)) cdb (low ∷ high ∷ [])
-    → named (drives_of z.unit.device) cdb ≡ (slice_index_or lower (low - 1) d).unit.state.lun ∷ (slice_index_or upper 0 e).unit.state.lun ∷ []
+    → named (commands_of z.unit.device) (drives_of z.unit.device) cdb ≡ (slice_index_or lower (low - 1) d).unit.state.lun ∷ (slice_index_or upper 0 e).unit.state.lun ∷ []
 asked_in_parts z all lower upper cdb low high d e h parts front place rising within names =
     let first : low - 1 < length all = omega (arith, place, rising, within) in
     let second : high - 1 < length all = omega (arith, place, rising, within) in

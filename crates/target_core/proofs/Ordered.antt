@@ -4,13 +4,15 @@ use Rattle.std.proofs.lemmas.Bool.Decides.{nat_tests}
 use Rattle.std.specs.Prelude.{cond, nat_le, nat_eq, drop, slice_get, ◌⊎◌}
 use Rattle.scsi_cdb.specs.declared.kind.Kind.{Kind}
 use Rattle.scsi_cdb.specs.declared.kind.Kind.TheVariants as kind
+use Rattle.scsi_cdb.specs.declared.profile.Profile.{Profile}
+use Rattle.scsi_cdb.specs.declared.profile.Profile.TheVariants.{Spec, Hosts}
 use Rattle.tape_medium.specs.declared.volume.VolumeTag.{VolumeTag}
 use Rattle.device_server.specs.Marks.{marks}
-use Rattle.device_server.specs.View.{DeviceView, Drive, Changer, kind_of, drives_of, held_in}
+use Rattle.device_server.specs.View.{DeviceView, Drive, Changer, kind_of, profile_of, commands_of, drives_of, held_in}
 use Rattle.logical_unit.specs.Route.{drive_at, named}
 use Rattle.logical_unit.specs.UnitView.{UnitView, UnitWithRoom, units_of}
 use Rattle.logical_unit.proofs.NamedDrives.{BothNamed, has_route, drive_within, named_one, named_two}
-use Rattle.target_core.specs.Faults.{is_drive, is_changer, are_drives, is_in_order, same_mark, agree, fault_of}
+use Rattle.target_core.specs.Faults.{is_drive, is_drive_of, same_profile, is_changer, are_drives, is_in_order, same_mark, agree, fault_of, profile_in}
 use Rattle.target_core.specs.declared.order.CoreFault.TheVariants.{Count, Order, Disagree}
 
 -- a conjunction, by its parts
@@ -24,7 +26,7 @@ pub record IsOrdered (c : UnitView) (ds : List UnitView) : Type 0 where
   pub kind : kind_of c.device ≡ kind.Changer
   pub lun : (c.state.lun == 0) ≡ true
   pub units : (c.state.units == length ds + 1) ≡ true
-  pub places : are_drives ds 1 (length ds + 1) ≡ true
+  pub places : are_drives (profile_of c.device) ds 1 (length ds + 1) ≡ true
   pub marked : agree (marks c.device) ds ≡ true
 
 no_fault : (count order marked : Bool) → cond count (cond order (cond marked None (Some Disagree)) (Some Order)) (Some Count) ≡ None → (count ≡ true) × (order ≡ true) × (marked ≡ true)
@@ -41,13 +43,19 @@ pub drive_is : (k : Kind) → is_drive k ≡ true → k ≡ kind.Drive
 drive_is kind.Drive h = refl
 drive_is kind.Changer h = absurd cc
 
+pub profile_is : (p q : Profile) → same_profile p q ≡ true → q ≡ p
+profile_is Spec Spec h = refl
+profile_is Hosts Hosts h = refl
+profile_is Spec Hosts h = absurd cc
+profile_is Hosts Spec h = absurd cc
+
 pub ordered : (c : UnitView) (ds : List UnitView) → fault_of (c ∷ ds) ≡ None → IsOrdered c ds
 ordered c ds h =
     let tests = no_fault (nat_le 1 (length ds) && nat_le (length ds) 4) (is_in_order c ds (length ds + 1)) (agree (marks c.device) ds) h in
     let count = both (nat_le 1 (length ds)) (nat_le (length ds) 4) tests.0 in
-    let order = both (is_changer (kind_of c.device)) (c.state.lun == 0 && (c.state.units == length ds + 1 && are_drives ds 1 (length ds + 1))) tests.1 in
-    let number = both (c.state.lun == 0) (c.state.units == length ds + 1 && are_drives ds 1 (length ds + 1)) order.1 in
-    let units = both (c.state.units == length ds + 1) (are_drives ds 1 (length ds + 1)) number.1 in
+    let order = both (is_changer (kind_of c.device)) (c.state.lun == 0 && (c.state.units == length ds + 1 && are_drives (profile_of c.device) ds 1 (length ds + 1))) tests.1 in
+    let number = both (c.state.lun == 0) (c.state.units == length ds + 1 && are_drives (profile_of c.device) ds 1 (length ds + 1)) order.1 in
+    let units = both (c.state.units == length ds + 1) (are_drives (profile_of c.device) ds 1 (length ds + 1)) number.1 in
     let one = count.0 in
     let four = count.1 in
     record {
@@ -74,37 +82,49 @@ marks_length (Changer e) h = refl
 pub has_drives : (c : UnitView) (ds : List UnitView) → IsOrdered c ds → drives_of c.device ≡ length ds
 has_drives c ds o = sym (marks_length c.device o.kind) ∙ agree_length (marks c.device) ds o.marked
 
--- the drive at a place, with its number
-pub record IsDriveAt (d : UnitView) (place : ℕ) : Type 0 where
+-- the drive at a place, of a profile, with its number
+pub record IsDriveAt (p : Profile) (d : UnitView) (place : ℕ) : Type 0 where
+  pub profile : profile_of d.device ≡ p
   pub kind : kind_of d.device ≡ kind.Drive
   pub lun : d.state.lun ≡ place
 
-drive_at_place : (ds : List UnitView) (i from count : ℕ) (d : UnitView) → are_drives ds from count ≡ true → slice_get ds i ≡ Some d → IsDriveAt d (from + i)
-drive_at_place [] i from count d h there = absurd cc
-drive_at_place (z ∷ ds) zero from count d h there =
+drive_at_place : (p : Profile) (ds : List UnitView) (i from count : ℕ) (d : UnitView) → are_drives p ds from count ≡ true → slice_get ds i ≡ Some d → IsDriveAt p d (from + i)
+drive_at_place p [] i from count d h there = absurd cc
+drive_at_place p (z ∷ ds) zero from count d h there =
     let is : z ≡ d = cc in
-    let k = both (is_drive (kind_of z.device)) (z.state.lun == from && (z.state.units == count && are_drives ds (from + 1) count)) h in
-    let l = (both (z.state.lun == from) (z.state.units == count && are_drives ds (from + 1) count) k.1).0 in
+    let k = both (is_drive_of p (commands_of z.device)) (z.state.lun == from && (z.state.units == count && are_drives p ds (from + 1) count)) h in
+    let l = (both (z.state.lun == from) (z.state.units == count && are_drives p ds (from + 1) count) k.1).0 in
     let number : z.state.lun ≡ from = grind (arith, nat_tests) in
-    record { kind = ap (λ (u : UnitView). kind_of u.device) (sym is) ∙ drive_is (kind_of z.device) k.0; lun = ap (λ (u : UnitView). u.state.lun) (sym is) ∙ number ∙ omega arith }
-drive_at_place (z ∷ ds) (suc i) from count d h there =
-    let k = both (is_drive (kind_of z.device)) (z.state.lun == from && (z.state.units == count && are_drives ds (from + 1) count)) h in
-    let l = (both (z.state.lun == from) (z.state.units == count && are_drives ds (from + 1) count) k.1).1 in
-    let rest = (both (z.state.units == count) (are_drives ds (from + 1) count) l).1 in
-    let at = drive_at_place ds i (from + 1) count d rest there in
-    record { kind = at.kind; lun = at.lun ∙ omega arith }
+    let own = both (is_drive (kind_of z.device)) (same_profile p (profile_of z.device)) k.0 in
+    record { profile = ap (λ (u : UnitView). profile_of u.device) (sym is) ∙ profile_is p (profile_of z.device) own.1; kind = ap (λ (u : UnitView). kind_of u.device) (sym is) ∙ drive_is (kind_of z.device) own.0; lun = ap (λ (u : UnitView). u.state.lun) (sym is) ∙ number ∙ omega arith }
+drive_at_place p (z ∷ ds) (suc i) from count d h there =
+    let k = both (is_drive_of p (commands_of z.device)) (z.state.lun == from && (z.state.units == count && are_drives p ds (from + 1) count)) h in
+    let l = (both (z.state.lun == from) (z.state.units == count && are_drives p ds (from + 1) count) k.1).1 in
+    let rest = (both (z.state.units == count) (are_drives p ds (from + 1) count) l).1 in
+    let at = drive_at_place p ds i (from + 1) count d rest there in
+    record { profile = at.profile; kind = at.kind; lun = at.lun ∙ omega arith }
 
-pub drive_of : (c : UnitView) (ds : List UnitView) (i : ℕ) (d : UnitView) → IsOrdered c ds → slice_get ds i ≡ Some d → IsDriveAt d (i + 1)
+pub drive_of : (c : UnitView) (ds : List UnitView) (i : ℕ) (d : UnitView) → IsOrdered c ds → slice_get ds i ≡ Some d → IsDriveAt (profile_of c.device) d (i + 1)
 drive_of c ds i d o there =
-    let at = drive_at_place ds i 1 (length ds + 1) d o.places there in
-    record { kind = at.kind; lun = at.lun ∙ omega arith }
+    let at = drive_at_place (profile_of c.device) ds i 1 (length ds + 1) d o.places there in
+    record { profile = at.profile; kind = at.kind; lun = at.lun ∙ omega arith }
+
+-- each unit has the profile of the changer
+pub one_profile : (us : List UnitView) (k : ℕ) (u : UnitView) → fault_of us ≡ None → slice_get us k ≡ Some u → profile_of u.device ≡ profile_in us
+one_profile [] k u h there = absurd cc
+one_profile (c ∷ ds) zero u h there = let is : c ≡ u = cc in ap (λ (x : UnitView). profile_of x.device) (sym is)
+one_profile (c ∷ ds) (suc k) u h there = (drive_of c ds k u (ordered c ds h) there).profile
+
+pub first_profile : (us : List UnitWithRoom) (u : UnitWithRoom) → Some u ≡ slice_get us 0 → profile_in (units_of us) ≡ profile_of u.unit.device
+first_profile [] u there = absurd cc
+first_profile (c ∷ us) u there = let is : u ≡ c = cc in ap (λ (x : UnitWithRoom). profile_of x.unit.device) (sym is)
 
 -- the drives that are named are there
 one_within : (from to : Option ℕ) (drives source destination l : ℕ) → (from ≡ Some l) ⊎ (to ≡ Some l) → from ≡ drive_at drives source → to ≡ drive_at drives destination → (1 ≤ l) × (l ≤ drives)
 one_within from to drives source destination l (inl is) f t = let w = drive_within drives source l (sym f ∙ is) in (w.0, w.1)
 one_within from to drives source destination l (inr is) f t = let w = drive_within drives destination l (sym t ∙ is) in (w.0, w.1)
 
-pub one_named : (device : DeviceView) (cdb : List ℕ) (l : ℕ) → named (drives_of device) cdb ≡ l ∷ [] → (1 ≤ l) × (l ≤ drives_of device)
+pub one_named : (device : DeviceView) (cdb : List ℕ) (l : ℕ) → named (commands_of device) (drives_of device) cdb ≡ l ∷ [] → (1 ≤ l) × (l ≤ drives_of device)
 one_named device cdb l h =
     let r = has_route device cdb l [] h in
     one_within r.route.from r.route.to (drives_of device) r.route.source r.route.destination l (named_one r.route.from r.route.to l r.names) r.decodes.from r.decodes.to
@@ -119,7 +139,7 @@ two_within from to drives source destination l m (less, inr down) f t =
     let low = drive_within drives destination l (sym t ∙ down.to_is) in
     (low.0, less, high.1)
 
-pub two_named : (device : DeviceView) (cdb : List ℕ) (l m : ℕ) (more : List ℕ) → named (drives_of device) cdb ≡ l ∷ m ∷ more → (1 ≤ l) × (l < m) × (m ≤ drives_of device)
+pub two_named : (device : DeviceView) (cdb : List ℕ) (l m : ℕ) (more : List ℕ) → named (commands_of device) (drives_of device) cdb ≡ l ∷ m ∷ more → (1 ≤ l) × (l < m) × (m ≤ drives_of device)
 two_named device cdb l m more h =
     let r = has_route device cdb l (m ∷ more) h in
     two_within r.route.from r.route.to (drives_of device) r.route.source r.route.destination l m (named_two r.route.from r.route.to l m more r.names) r.decodes.from r.decodes.to

@@ -2,7 +2,7 @@
 use Rattle.std.specs.Prelude.{◌≡◌, ℕ, zero, suc, List, [], ◌∷◌, slice_get, Option, Some, None}
 use Rattle.scsi_nexus.specs.declared.nexus.Nexus.{Nexus}
 use Rattle.scsi_sense.specs.declared.status.Status.TheVariants.{Good, Busy}
-use Rattle.device_server.specs.View.{drives_of}
+use Rattle.device_server.specs.View.{commands_of, drives_of}
 use Rattle.judgement.specs.declared.reply.Reply.{Reply}
 use Rattle.judgement.specs.Replies.{absent_answer}
 use Rattle.logical_unit.specs.Move.{OneIsBusyOnlyFor, TwoAreBusyOnlyFor}
@@ -30,7 +30,7 @@ NamingIsBusyOnlyFor xs c (low ∷ high ∷ more) n cdb bytes r = PassIsBusyOnlyF
 -- a command to a unit that is there; where there is none, only data take memory
 abbrev pub BusyOnlyAt : List UnitWithRoom → ℕ → Option UnitWithRoom → Nexus → (cdb bytes : List ℕ) → Reply → Type 0
 BusyOnlyAt xs lun None n cdb bytes r = r.status ≡ Busy → (absent_answer cdb).status ≡ Good
-BusyOnlyAt xs zero (Some c) n cdb bytes r = NamingIsBusyOnlyFor xs c (named (drives_of c.unit.device) cdb) n cdb bytes r
+BusyOnlyAt xs zero (Some c) n cdb bytes r = NamingIsBusyOnlyFor xs c (named (commands_of c.unit.device) (drives_of c.unit.device) cdb) n cdb bytes r
 BusyOnlyAt xs (suc k) (Some x) n cdb bytes r = IsBusyOnlyFor x n cdb bytes r
 
 abbrev pub CommandIsBusyOnlyFor : List UnitWithRoom → ℕ → Nexus → (cdb bytes : List ℕ) → Reply → Type 0

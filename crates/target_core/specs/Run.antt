@@ -3,7 +3,7 @@ use Rattle.std.specs.Prelude.{◌≡◌, ℕ, zero, suc, List, [], ◌∷◌, sl
 use Rattle.scsi_nexus.specs.declared.nexus.Nexus.{Nexus}
 use Rattle.scsi_sense.specs.declared.condition.Condition.TheVariants.{LogicalUnitNotSupported}
 use Rattle.audit_log.specs.declared.record.Record.{Record}
-use Rattle.device_server.specs.View.{drives_of}
+use Rattle.device_server.specs.View.{commands_of, drives_of}
 use Rattle.judgement.specs.declared.reply.Reply.{Reply}
 use Rattle.logical_unit.specs.Legal.{IsTrail}
 use Rattle.judgement.specs.Replies.{AnswersAbsent, check}
@@ -51,12 +51,12 @@ CommandsNaming us c (low ∷ high ∷ more) n cdb bytes new = MovesBetween us c 
 -- the drives that a CDB names at the changer of these units
 abbrev pub NamesAt : List UnitView → (cdb names : List ℕ) → Type 0
 NamesAt [] cdb names = ⊥
-NamesAt (c ∷ ds) cdb names = named (drives_of c.device) cdb ≡ names
+NamesAt (c ∷ ds) cdb names = named (commands_of c.device) (drives_of c.device) cdb ≡ names
 
 -- a command to a unit that is there, or to none
 abbrev pub CommandsAt : List UnitView → ℕ → Option UnitView → Nexus → (cdb bytes : List ℕ) → List UnitView × Reply → Type 0
 CommandsAt us lun None n cdb bytes new = (new.0 ≡ us) × AnswersAbsent cdb new.1
-CommandsAt us zero (Some c) n cdb bytes new = CommandsNaming us c (named (drives_of c.device) cdb) n cdb bytes new
+CommandsAt us zero (Some c) n cdb bytes new = CommandsNaming us c (named (commands_of c.device) (drives_of c.device) cdb) n cdb bytes new
 CommandsAt us (suc k) (Some u) n cdb bytes new = AtUnit us (suc k) (Executes u n cdb bytes) new
 
 abbrev pub Commands : List UnitView → ℕ → Nexus → (cdb bytes : List ℕ) → List UnitView × Reply → Type 0

@@ -3,11 +3,11 @@ ghost use Rattle.scsi_cdb.specs.declared.kind.Kind.TheVariants.{Changer};
 ghost use Rattle.device_server.specs.Marks.{marks};
 ghost use Rattle.device_server.specs.View.{kind_of, drives_of};
 ghost use Rattle.logical_unit.specs.UnitView.{units_of};
-ghost use Rattle.target_core.specs.Faults.{are_drives, same_mark, agree, fault_of};
+ghost use Rattle.target_core.specs.Faults.{are_drives, is_drive_of, same_profile, same_mark, agree, fault_of};
 
 use device_server::DeviceServer;
 use logical_unit::LogicalUnit;
-use scsi_cdb::Kind;
+use scsi_cdb::{CommandSet, Kind, Profile};
 use tape_medium::{FIRST_DATA_TRANSFER, VolumeTag};
 use thiserror::Error;
 
@@ -20,7 +20,7 @@ pub enum CoreFault {
     /// There are fewer than two, or more than five: a target has a changer and one to four drives.
     #[error("a target has a changer and one to four drives")]
     Count,
-    /// They aren't a changer and then drives, numbered by place, each made with this count of units.
+    /// They aren't a changer and then drives of its profile, numbered by place, each made with this count of units.
     #[error("the units are not a changer and then drives by place")]
     Order,
     /// The changer has fewer or more data transfer elements than there are drives, or one of them doesn't have the tag of the
@@ -43,7 +43,7 @@ pub(crate) fn fault_of<D: DeviceServer>(units: &[LogicalUnit<D>]) -> Option<Core
     if changer.kind() != Kind::Changer || changer.lun() != 0 || changer.units() != count {
         return Some(CoreFault::Order);
     }
-    if !are_drives(drives, 1, count) {
+    if !are_drives(changer.commands().profile, drives, 1, count) {
         return Some(CoreFault::Order);
     }
     if !agree(changer, drives, 0) {
@@ -80,18 +80,42 @@ fn agree<D: DeviceServer>(changer: &LogicalUnit<D>, drives: &[LogicalUnit<D>], f
     }
 }
 
-/// Whether units are drives numbered by place, each made with this count of units.
-fn are_drives<D: DeviceServer>(units: &[LogicalUnit<D>], from: u8, count: u8) -> bool
+fn same_profile(one: Profile, two: Profile) -> bool
+    ensures { result ≡ same_profile one two }
+{
+    match (one, two) {
+        (Profile::Spec, Profile::Spec) | (Profile::Hosts, Profile::Hosts) => true,
+        (Profile::Spec, Profile::Hosts) | (Profile::Hosts, Profile::Spec) => false,
+    }
+}
+
+/// Whether commands are those of drives of a profile.
+fn is_drive_of(profile: Profile, commands: CommandSet) -> bool
+    ensures { result ≡ is_drive_of profile commands }
+{
+    match commands.kind {
+        Kind::Drive => same_profile(profile, commands.profile),
+        Kind::Changer => false,
+    }
+}
+
+/// Whether units are drives of a profile, numbered by place, each made with this count of units.
+fn are_drives<D: DeviceServer>(
+    profile: Profile,
+    units: &[LogicalUnit<D>],
+    from: u8,
+    count: u8,
+) -> bool
     requires { from + length units.now < 256 }
-    ensures { result ≡ are_drives (units_of units.now) from count }
+    ensures { result ≡ are_drives profile (units_of units.now) from count }
 {
     match units {
         [] => true,
         [unit, rest @ ..] => {
-            unit.kind() == Kind::Drive
+            is_drive_of(profile, unit.commands())
                 && unit.lun() == from
                 && unit.units() == count
-                && are_drives(rest, from + 1, count)
+                && are_drives(profile, rest, from + 1, count)
         }
     }
 }

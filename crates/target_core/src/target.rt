@@ -1,8 +1,8 @@
 ghost use Rattle.std.specs.Prelude.{◌≡◌, ◌<◌, ◌≤◌, [], ◌∷◌, length, slice_get, Some, None};
 ghost use Rattle.std.specs.Global.{Vec};
 ghost use Rattle.std.specs.Option.{option_map};
-ghost use Rattle.scsi_cdb.specs.declared.kind.Kind.TheVariants.{Changer};
 ghost use Rattle.audit_log.specs.declared.record.Record.{Record};
+ghost use Rattle.judgement.specs.Received.{IsFor};
 ghost use Rattle.logical_unit.specs.Step.{Executes, IsBusyOnlyFor};
 ghost use Rattle.logical_unit.specs.UnitView.{units_of};
 ghost use Rattle.target_core.specs.Faults.{fault_of};
@@ -15,7 +15,7 @@ use audit_log::Record;
 use device_server::DeviceServer;
 use judgement::ReceivedCommand;
 use logical_unit::{LogicalUnit, Reply, absent, move_one, move_two, named};
-use scsi_cdb::Kind;
+use scsi_cdb::Profile;
 use scsi_nexus::Nexus;
 use scsi_sense::Condition;
 use std::alloc::{AllocError, Global};
@@ -59,7 +59,7 @@ fn execute_at<D: DeviceServer>(
     ensures unit { Executes unit.old.unit nexus cdb.now bytes.now (unit.new.unit, result) }
     ensures busy { IsBusyOnlyFor unit.old nexus cdb.now bytes.now result }
 {
-    let received = ReceivedCommand::new(nexus, unit.kind(), cdb, bytes);
+    let received = ReceivedCommand::new(nexus, unit.commands(), cdb, bytes);
     unit.execute(alloc, &received)
 }
 
@@ -88,7 +88,7 @@ fn move_at<D: DeviceServer>(
     lun: usize,
     received: &ReceivedCommand<'_>,
 ) -> Reply
-    requires kind { received.now.kind ≡ Changer }
+    requires kind { IsFor changer.old.unit.device received.now }
     requires ordered { fault_of (units_of (changer.old ∷ drives.old)) ≡ None }
     requires place { 1 ≤ lun }
     requires within { lun ≤ length drives.old }
@@ -108,7 +108,7 @@ fn move_between<D: DeviceServer>(
     high: usize,
     received: &ReceivedCommand<'_>,
 ) -> Reply
-    requires kind { received.now.kind ≡ Changer }
+    requires kind { IsFor changer.old.unit.device received.now }
     requires ordered { fault_of (units_of (changer.old ∷ drives.old)) ≡ None }
     requires place { 1 ≤ low }
     requires rising { low < high }
@@ -128,7 +128,7 @@ fn command_with_drives<D: DeviceServer>(
     drives: &mut [LogicalUnit<D>],
     received: &ReceivedCommand<'_>,
 ) -> Reply
-    requires kind { received.now.kind ≡ Changer }
+    requires kind { IsFor changer.old.unit.device received.now }
     requires ordered { fault_of (units_of (changer.old ∷ drives.old)) ≡ None }
     ensures step { Commands (units_of (changer.old ∷ drives.old)) 0 received.now.nexus received.now.cdb received.now.bytes (units_of (changer.new ∷ drives.new), result) }
     ensures busy { CommandIsBusyOnlyFor (changer.old ∷ drives.old) 0 received.now.nexus received.now.cdb received.now.bytes result }
@@ -156,8 +156,8 @@ fn command_to_changer<D: DeviceServer>(
     ensures step { Commands (units_of units.old) 0 nexus cdb.now bytes.now (units_of units.new, result) }
     ensures busy { CommandIsBusyOnlyFor units.old 0 nexus cdb.now bytes.now result }
 {
-    let received = ReceivedCommand::new(nexus, Kind::Changer, cdb, bytes);
     let (first, drives) = units.split_at_mut(1);
+    let received = ReceivedCommand::new(nexus, first[0].commands(), cdb, bytes);
     command_with_drives(alloc, &mut first[0], drives, &received)
 }
 
@@ -260,13 +260,14 @@ fn drain<D: DeviceServer>(
 }
 
 impl<D: DeviceServer> TargetCore<D> {
-    ghost use Rattle.std.specs.Prelude.{◌≡◌, List, ◌++◌, Some, None, OnOk, OnErr, IfOk, IfErr};
+    ghost use Rattle.std.specs.Prelude.{◌≡◌, ℕ, List, ◌++◌, Some, None, slice_get, OnOk, OnErr, IfOk, IfErr};
     ghost use Rattle.judgement.specs.declared.reply.Reply.{Reply};
-    ghost use Rattle.target_core.specs.Faults.{fault_of};
+    ghost use Rattle.device_server.specs.View.{profile_of};
+    ghost use Rattle.target_core.specs.Faults.{fault_of, profile_in};
     ghost use Rattle.std.specs.Global.{Vec};
     ghost use Rattle.std.specs.Option.{option_map};
     ghost use Rattle.audit_log.specs.declared.record.Record.{Record};
-    ghost use Rattle.logical_unit.specs.UnitView.{units_of};
+    ghost use Rattle.logical_unit.specs.UnitView.{UnitView, units_of};
     ghost use Rattle.target_core.specs.Run.{Steps, Runs, Drains};
     ghost use Rattle.target_core.specs.Busy.{EventIsBusyOnlyFor};
 
@@ -298,6 +299,18 @@ impl<D: DeviceServer> TargetCore<D> {
     {
         let TargetCore { units } = self;
         units
+    }
+
+    /// The profile that all units are of.
+    #[tactic(auto, using(crate::proofs::Ordered::one_profile))]
+    pub fn profile(&self) -> Profile
+        ensures changer { result ≡ profile_in (units_of self.now) }
+        ensures each { (k : ℕ) (u : UnitView) → slice_get (units_of self.now) k ≡ Some u → profile_of u.device ≡ result }
+    {
+        match self.units.first() {
+            Some(changer) => changer.commands().profile,
+            None => Profile::Spec,
+        }
     }
 
     /// One event. BUSY changes nothing. It comes only where there is no slot for the sender, no room or no number for a

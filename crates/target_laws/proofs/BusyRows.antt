@@ -2,6 +2,7 @@
 use Rattle.std.proofs.Common.{◌≡◌, ℕ, ◌+◌, ◌^◌, Bool, true, false, inl, inr, refl, arith}
 use Rattle.std.specs.Prelude.{◌⊎◌}
 use Rattle.scsi_cdb.specs.Commands as commands
+use Rattle.device_server.specs.View.{profile_of}
 use Rattle.target_laws.specs.BusyRows.{WhenBusy}
 
 -- neither memory nor a slot, nor room, nor a number is wanted
@@ -12,7 +13,7 @@ none_wanted last start (inr (inr (inl e))) = cc
 none_wanted last start (inr (inr (inr e))) = absurd (omega (arith, start, e))
 
 pub when_busy : WhenBusy
-unfolding commands.command_of
+unfolding commands.command_of profile_of
 when_busy = record {
   never = λ h. none_wanted 0 refl (h refl);
   never_at_the_changer = λ h. none_wanted 0 refl (h refl);

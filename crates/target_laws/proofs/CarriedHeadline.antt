@@ -9,7 +9,7 @@ use Rattle.pr_core.specs.State.{keys_after, power_on}
 use Rattle.pr_core.specs.declared.verdict.Verdict.TheVariants.{Allowed}
 use Rattle.tape_medium.specs.declared.volume.Volume.{Volume}
 use Rattle.tape_medium.specs.declared.volume.VolumeTag.{VolumeTag}
-use Rattle.device_server.specs.View.{DeviceView, drives_of, held_in}
+use Rattle.device_server.specs.View.{DeviceView, commands_of, drives_of, held_in, profile_of}
 use Rattle.device_server.specs.declared.fault.TakeFault.{TakeFault}
 use Rattle.judgement.specs.Readings.{verdict_of}
 use Rattle.judgement.specs.declared.command.Command.{Command}
@@ -39,19 +39,19 @@ abbrev pub Three : Type 0
 Three = (UnitView × Reply) × UnitView
 
 moves : ◌≡◌ {A = Three} ((changer_with after, good_with 1), drive_with first_tag) (moved_one (changer_of before) (empty_drive 1) a (move slot_1 drive_1) [])
-unfolding commands.command_of keys_after
+unfolding commands.command_of profile_of keys_after
 moves = refl
 
-names : named (drives_of before) (move slot_1 drive_1) ≡ 1 ∷ []
-unfolding commands.command_of
+names : named (commands_of before) (drives_of before) (move slot_1 drive_1) ≡ 1 ∷ []
+unfolding commands.command_of profile_of
 names = refl
 
 asks : route_at (changer_of before) (move slot_1 drive_1) ≡ Some inward
-unfolding commands.command_of
+unfolding commands.command_of profile_of
 asks = refl
 
 asks_none : route_at (changer_of before) test_unit_ready ≡ None
-unfolding commands.command_of
+unfolding commands.command_of profile_of
 asks_none = refl
 
 served : IsServedSo moved
@@ -153,7 +153,7 @@ abbrev asked : Command
 asked = command.Device (request.MoveMedium 0 0x400 0x100 false)
 
 comes : ComesToTheCheck (changer_of before) a (move slot_1 drive_1) [] asked
-unfolding commands.command_of
+unfolding commands.command_of profile_of
 comes = record { decodes = refl; ready = refl }
 
 allowed : verdict_of power_on a asked ≡ Allowed
@@ -193,7 +193,7 @@ abbrev asked_out : Command
 asked_out = command.Device (request.MoveMedium 0 0x100 0x401 false)
 
 comes_out : ComesToTheCheck (changer_of after) b (move drive_1 slot_2) [] asked_out
-unfolding commands.command_of
+unfolding commands.command_of profile_of
 comes_out = record { decodes = refl; ready = refl }
 
 allowed_out : verdict_of power_on b asked_out ≡ Allowed
@@ -202,19 +202,19 @@ allowed_out = refl
 left_out : is_left (behind (changer_of after) b asked_out []).2.sense ≡ true
 left_out = refl
 
-names_out : named (drives_of after) (move drive_1 slot_2) ≡ 1 ∷ []
-unfolding commands.command_of
+names_out : named (commands_of after) (drives_of after) (move drive_1 slot_2) ≡ 1 ∷ []
+unfolding commands.command_of profile_of
 names_out = refl
 
 asks_out : route_at (changer_of after) (move drive_1 slot_2) ≡ Some outward
-unfolding commands.command_of
+unfolding commands.command_of profile_of
 asks_out = refl
 
 with_out : IsWithDrives prevented 0 (changer_of after) (move drive_1 slot_2)
 with_out = record { changer = refl; some = λ e. let no = sym names_out ∙ e in cc; there = subst (AreThere prevented) (sym names_out) (refl, tt) }
 
 stops : ◌≡◌ {A = Three} ((changer_checking b after (sense 5 0x53 0x02), checked (sense 5 0x53 0x02)), drive_prevented first_tag) (moved_one (changer_of after) (drive_prevented first_tag) b (move drive_1 slot_2) [])
-unfolding commands.command_of keys_after
+unfolding commands.command_of profile_of keys_after
 stops = refl
 
 served_stopped : IsServed power_on prevented (changer_checking b after (sense 5 0x53 0x02) ∷ drive_prevented first_tag ∷ []) 0 b (move drive_1 slot_2) [] (checked (sense 5 0x53 0x02))

@@ -6,7 +6,7 @@ use Rattle.scsi_cdb.specs.declared.kind.Kind.TheVariants as kind
 use Rattle.scsi_nexus.specs.declared.nexus.Nexus.{Nexus}
 use Rattle.scsi_sense.specs.declared.condition.Condition.{Condition}
 use Rattle.tape_medium.specs.declared.volume.Volume.{Volume}
-use Rattle.device_server.specs.View.{DeviceView, Drive, Changer, kind_of, reset_of}
+use Rattle.device_server.specs.View.{DeviceView, Drive, Changer, kind_of, commands_of, reset_of}
 use Rattle.device_server.specs.Volumes.{volume_at, volumes_of, SameCartridge, SameAt}
 use Rattle.device_server.proofs.TapeLemmas.{same_volume, resets_keep_volumes}
 use Rattle.judgement.specs.declared.reply.Reply.{Reply}
@@ -160,13 +160,13 @@ by_carries a b (Some w) h = IsPermutation-map cartridge_of (volumes_of a) (volum
 module _ (c : UnitView) (ds : List UnitView) (o : IsOrdered c ds) (n : Nexus) (cdb bytes : List ℕ) (r : Reply) where
   alone_stay : (v : UnitView) → Executes c n cdb bytes (v, r) → IsPermutation (cartridges (c ∷ ds)) (cartridges (v ∷ ds))
   alone_stay v step =
-      let s = decoded_command (kind_of c.device) cdb bytes in
+      let s = decoded_command (commands_of c.device) cdb bytes in
       IsPermutation-append_left (cartridges ds) (cartridges_of c.device) (cartridges_of v.device)
       (by_carries c.device v.device (cond (is_good r.status) (way_of s) None) (changer_does c.device v.device s bytes r.status r.sense o.kind (executed c v n cdb bytes r step)))
 
   own_stay : (k : ℕ) (d x : UnitView) → slice_get ds k ≡ Some d → Executes d n cdb bytes (x, r) → cartridges (c ∷ slice_set ds k x) ≡ cartridges (c ∷ ds)
   own_stay k d x there step =
-      let s = decoded_command (kind_of d.device) cdb bytes in
+      let s = decoded_command (commands_of d.device) cdb bytes in
       let drive = (drive_of c ds k d o there).kind in
       let same = drive_does d.device x.device s bytes r.status r.sense drive (executed d x n cdb bytes r step) in
       keeps (c ∷ ds) (suc k) d x there

@@ -24,7 +24,7 @@ use Rattle.unit_attention.specs.Queues.{first_reset_of, first_other_of}
 use Rattle.audit_log.specs.declared.stage.Stage.TheVariants.{ResetAttention, OtherAttention}
 use Rattle.pr_core.specs.State.{State}
 use Rattle.pr_core.specs.declared.verdict.Verdict.TheVariants.{Allowed}
-use Rattle.device_server.specs.View.{DeviceView, kind_of, drives_of}
+use Rattle.device_server.specs.View.{DeviceView, commands_of, drives_of}
 use Rattle.judgement.specs.declared.command.Command.{Command}
 use Rattle.judgement.specs.declared.command.Command.TheVariants.{ReserveIn}
 use Rattle.judgement.specs.declared.decision.Decision.{Decision}
@@ -113,13 +113,13 @@ module _ (h : State) (mid next : List UnitView) (lun : ℕ) (now left : UnitView
   only_there : r.status ≡ ReservationConflict → IsBarred h now n cdb bytes
   only_there conflict =
       let u = contacted_present now n in
-      let f = from_the_check u n (decoded_command (kind_of u.device) cdb bytes) bytes (sym (ap (λ (x : UnitView × Reply). x.1.status) is) ∙ conflict) in
+      let f = from_the_check u n (decoded_command (commands_of u.device) cdb bytes) bytes (sym (ap (λ (x : UnitView × Reply). x.1.status) is) ∙ conflict) in
       let comes : ComesToTheCheck now n cdb bytes f.command = record { decodes = f.decodes; ready = f.ready } in
       let d = decided f.command comes in
       record { command = f.command; comes = comes; verdict = d.conflicts.0 conflict }
 
   pub is_answered : has_room now.state n ≡ true → HasNumber now → IsAnswered h mid next lun now left n cdb bytes r
-  is_answered room number = record { room = room; number = number; not_busy = λ e. judged_free (contacted_present now n) n (decoded_command (kind_of now.device) cdb bytes) bytes (sym (ap (λ (x : UnitView × Reply). x.1.status) is) ∙ e); decided = decided; only_there = only_there }
+  is_answered room number = record { room = room; number = number; not_busy = λ e. judged_free (contacted_present now n) n (decoded_command (commands_of now.device) cdb bytes) bytes (sym (ap (λ (x : UnitView × Reply). x.1.status) is) ∙ e); decided = decided; only_there = only_there }
 
 -- A MOVE THAT WAS LEFT to the drives. PERSISTENT RESERVE IN isn't
 reads_end : (u : JudgedUnit) (n : Nexus) (a : InServiceAction) (l : ℕ) (bytes : List ℕ) (o : Option Kind) → is_left (by_other u n (ReserveIn a l) bytes o).2.sense ≡ true → ⊥
@@ -163,7 +163,7 @@ module _ (h : State) (mid next : List UnitView) (lun : ℕ) (now left : UnitView
             asked = asked;
             ends = decides command
                 (ends.unit
-                ∙ ap (λ (f : Decision). recorded now n (act_of (kind_of now.device) cdb bytes) (record { device = device; state = now.state }, f, reply)) (sym ends.found ∙ ap (λ (x : JudgedUnit × Decision × Reply). x.1) through)
+                ∙ ap (λ (f : Decision). recorded now n (act_of (commands_of now.device) cdb bytes) (record { device = device; state = now.state }, f, reply)) (sym ends.found ∙ ap (λ (x : JudgedUnit × Decision × Reply). x.1) through)
                 ∙ ap (λ (s : Result Command Condition). recorded now n (act_of_decoded s) (record { device = device; state = now.state }, (let_through u n command bytes).1, reply)) comes.decodes);
           });
           shows = λ a l c good.
@@ -182,7 +182,7 @@ module _ (h : State) (mid next : List UnitView) (lun : ℕ) (now left : UnitView
 
 -- what is judged isn't BUSY
 free : (now left : UnitView) (n : Nexus) (cdb bytes : List ℕ) (r : Reply) → ◌≡◌ {A = UnitView × Reply} (left, r) (answered now n cdb bytes) → r.status ≢ Busy
-free now left n cdb bytes r is e = judged_free (contacted_present now n) n (decoded_command (kind_of now.device) cdb bytes) bytes (sym (ap (λ (x : UnitView × Reply). x.1.status) is) ∙ e)
+free now left n cdb bytes r is e = judged_free (contacted_present now n) n (decoded_command (commands_of now.device) cdb bytes) bytes (sym (ap (λ (x : UnitView × Reply). x.1.status) is) ∙ e)
 
 -- the answer of a unit alone
 answer : (mid next : List UnitView) (h : State) (lun : ℕ) (now left : UnitView) (n : Nexus) (cdb bytes : List ℕ) (r : Reply) → now.state.reservations ≡ h → (left ≡ now → next ≡ mid)
@@ -219,7 +219,7 @@ some_unit u = Some u
 record Serves (h : State) (mid next : List UnitView) (lun : ℕ) (now : UnitView) (n : Nexus) (cdb bytes : List ℕ) (r : Reply) : Type 0 where
   left : UnitView
   stays : slice_get next lun ≡ Some left
-  leaves : left.state.reservations ≡ after_history now.state.reservations (accepted_by (kind_of now.device) n cdb bytes r.status)
+  leaves : left.state.reservations ≡ after_history now.state.reservations (accepted_by (commands_of now.device) n cdb bytes r.status)
   others : (k : ℕ) → k ≢ lun → (slice_get next k ≡ slice_get mid k) ⊎ IsMovedAt mid next lun now left cdb r k
   answers : IsBusy mid next r ⊎ IsAnswered h mid next lun now left n cdb bytes r
 
@@ -234,8 +234,8 @@ alone_serves h mid next lun now n cdb bytes r there same alone a = record {
 }
 
 -- a move leaves the registrations as they were, and adds nothing to the history
-move_leaves : (now left : UnitView) (n : Nexus) (cdb bytes : List ℕ) (r : Reply) (l : ℕ) (more : List ℕ) → named (drives_of now.device) cdb ≡ l ∷ more → IsSameUnit now left
-    → left.state.reservations ≡ after_history now.state.reservations (accepted_by (kind_of now.device) n cdb bytes r.status)
+move_leaves : (now left : UnitView) (n : Nexus) (cdb bytes : List ℕ) (r : Reply) (l : ℕ) (more : List ℕ) → named (commands_of now.device) (drives_of now.device) cdb ≡ l ∷ more → IsSameUnit now left
+    → left.state.reservations ≡ after_history now.state.reservations (accepted_by (commands_of now.device) n cdb bytes r.status)
 move_leaves now left n cdb bytes r l more names same = same.reservations ∙ sym (ap (after_history now.state.reservations) (adds_nothing now.device n cdb bytes r l more names))
 
 -- a drive of a move, by whether the volume was carried
@@ -265,7 +265,7 @@ gone us l none h = let no : false ≡ true = subst (λ (o : Option UnitView). Is
 some_named : (names : List ℕ) (l : ℕ) (more : List ℕ) → names ≡ l ∷ more → names ≢ []
 some_named names l more is none = let no = sym is ∙ none in cc
 
-one_serves : (h : State) (mid next : List UnitView) (l : ℕ) (now d : UnitView) (n : Nexus) (cdb bytes : List ℕ) (r : Reply) → slice_get mid 0 ≡ Some now → now.state.reservations ≡ h → slice_get mid l ≡ Some d → named (drives_of now.device) cdb ≡ l ∷ []
+one_serves : (h : State) (mid next : List UnitView) (l : ℕ) (now d : UnitView) (n : Nexus) (cdb bytes : List ℕ) (r : Reply) → slice_get mid 0 ≡ Some now → now.state.reservations ≡ h → slice_get mid l ≡ Some d → named (commands_of now.device) (drives_of now.device) cdb ≡ l ∷ []
     → AtDrive mid l (MovesOne now d n cdb bytes) (next, r) → Serves h mid next 0 now n cdb bytes r
 one_serves h mid next l now d n cdb bytes r there same drive names a =
     let within = one_named now.device cdb l names in
@@ -294,12 +294,12 @@ one_serves h mid next l now d n cdb bytes r there same drive names a =
       ] refl;
       answers = answer_by mid next h now a.changer n cdb bytes r d a.other carried q.route same
           (λ is state. a.units ∙ ap (λ (u : UnitView). slice_set (slice_set mid 0 u) l a.other) is ∙ ap (λ (xs : List UnitView). slice_set xs l a.other) (set-same mid 0 now there) ∙ ap (slice_set mid l) state ∙ set-same mid l d drive)
-          (record { changer = refl; some = some_named (named (drives_of now.device) cdb) l [] names; there = subst (AreThere mid) (sym names) (there_is mid l d drive, tt) }) q.is goes
+          (record { changer = refl; some = some_named (named (commands_of now.device) (drives_of now.device) cdb) l [] names; there = subst (AreThere mid) (sym names) (there_is mid l d drive, tt) }) q.is goes
           (λ condition is. one_stops mid now.device q.route condition l d q.names drive (by_route ∙ is)) b;
     }
 
 two_serves : (h : State) (mid next : List UnitView) (l m : ℕ) (more : List ℕ) (now : UnitView) (ds : TwoDrives) (n : Nexus) (cdb bytes : List ℕ) (r : Reply) → slice_get mid 0 ≡ Some now → now.state.reservations ≡ h → slice_get mid l ≡ Some ds.low → slice_get mid m ≡ Some ds.high
-    → named (drives_of now.device) cdb ≡ l ∷ m ∷ more → AtDrives mid l m (MovesTwo now ds n cdb bytes) (next, r) → Serves h mid next 0 now n cdb bytes r
+    → named (commands_of now.device) (drives_of now.device) cdb ≡ l ∷ m ∷ more → AtDrives mid l m (MovesTwo now ds n cdb bytes) (next, r) → Serves h mid next 0 now n cdb bytes r
 two_serves h mid next l m more now ds n cdb bytes r there same low high names a =
     let within = two_named now.device cdb l m more names in
     let one : 0 ≢ l = λ e. let w = within.0 in absurd (omega (arith, e, w)) in
@@ -348,34 +348,34 @@ two_serves h mid next l m more now ds n cdb bytes r there same low high names a 
           ∙ ap (λ (x : TwoDrives). slice_set (slice_set mid l x.low) m x.high) state ∙ ap (λ (xs : List UnitView). slice_set xs m ds.high) (set-same mid l ds.low low) ∙ set-same mid m ds.high high)
           (record {
             changer = refl;
-            some = some_named (named (drives_of now.device) cdb) l (m ∷ more) names;
+            some = some_named (named (commands_of now.device) (drives_of now.device) cdb) l (m ∷ more) names;
             there = subst (AreThere mid) (sym names) (there_is mid l ds.low low, (there_is mid m ds.high high, subst (AreThere mid) (sym (no_more q.route.from q.route.to l m more q.names)) tt));
           }) q.is goes
           (λ condition is. two_stop mid now.device q.route condition l m more ds q.names low high (by_route ∙ is)) b;
     }
 
-with_serves : (h : State) (mid next : List UnitView) (l : ℕ) (now : UnitView) (n : Nexus) (cdb bytes : List ℕ) (r : Reply) (d : Option UnitView) → slice_get mid 0 ≡ Some now → now.state.reservations ≡ h → slice_get mid l ≡ d → named (drives_of now.device) cdb ≡ l ∷ []
+with_serves : (h : State) (mid next : List UnitView) (l : ℕ) (now : UnitView) (n : Nexus) (cdb bytes : List ℕ) (r : Reply) (d : Option UnitView) → slice_get mid 0 ≡ Some now → now.state.reservations ≡ h → slice_get mid l ≡ d → named (commands_of now.device) (drives_of now.device) cdb ≡ l ∷ []
     → MovesWith mid now l d n cdb bytes (next, r) → Serves h mid next 0 now n cdb bytes r
 with_serves h mid next l now n cdb bytes r None there same drive names step =
     alone_serves h mid next 0 now n cdb bytes r there same (λ w. gone mid l drive (subst (AreThere mid) names w.there).0) step
 with_serves h mid next l now n cdb bytes r (Some d) there same drive names step = one_serves h mid next l now d n cdb bytes r there same drive names step
 
 between_serves : (h : State) (mid next : List UnitView) (l m : ℕ) (more : List ℕ) (now : UnitView) (n : Nexus) (cdb bytes : List ℕ) (r : Reply) (d e : Option UnitView) → slice_get mid 0 ≡ Some now → now.state.reservations ≡ h → slice_get mid l ≡ d → slice_get mid m ≡ e
-    → named (drives_of now.device) cdb ≡ l ∷ m ∷ more → MovesBetween mid now l m d e n cdb bytes (next, r) → Serves h mid next 0 now n cdb bytes r
+    → named (commands_of now.device) (drives_of now.device) cdb ≡ l ∷ m ∷ more → MovesBetween mid now l m d e n cdb bytes (next, r) → Serves h mid next 0 now n cdb bytes r
 between_serves h mid next l m more now n cdb bytes r None e there same low high names step =
     alone_serves h mid next 0 now n cdb bytes r there same (λ w. gone mid l low (subst (AreThere mid) names w.there).0) step
 between_serves h mid next l m more now n cdb bytes r (Some d) None there same low high names step =
     alone_serves h mid next 0 now n cdb bytes r there same (λ w. gone mid m high (subst (AreThere mid) names w.there).1.0) step
 between_serves h mid next l m more now n cdb bytes r (Some d) (Some e) there same low high names step = two_serves h mid next l m more now (record { low = d; high = e }) n cdb bytes r there same low high names step
 
-naming_serves : (h : State) (mid next : List UnitView) (names : List ℕ) (now : UnitView) (n : Nexus) (cdb bytes : List ℕ) (r : Reply) → slice_get mid 0 ≡ Some now → now.state.reservations ≡ h → named (drives_of now.device) cdb ≡ names
+naming_serves : (h : State) (mid next : List UnitView) (names : List ℕ) (now : UnitView) (n : Nexus) (cdb bytes : List ℕ) (r : Reply) → slice_get mid 0 ≡ Some now → now.state.reservations ≡ h → named (commands_of now.device) (drives_of now.device) cdb ≡ names
     → CommandsNaming mid now names n cdb bytes (next, r) → Serves h mid next 0 now n cdb bytes r
 naming_serves h mid next [] now n cdb bytes r there same is step = alone_serves h mid next 0 now n cdb bytes r there same (λ w. w.some is) step
 naming_serves h mid next (l ∷ []) now n cdb bytes r there same is step = with_serves h mid next l now n cdb bytes r (slice_get mid l) there same refl is step
 naming_serves h mid next (l ∷ m ∷ more) now n cdb bytes r there same is step = between_serves h mid next l m more now n cdb bytes r (slice_get mid l) (slice_get mid m) there same refl refl is step
 
 serves : (h : State) (mid next : List UnitView) (lun : ℕ) (now : UnitView) (n : Nexus) (cdb bytes : List ℕ) (r : Reply) → slice_get mid lun ≡ Some now → now.state.reservations ≡ h → CommandsAt mid lun (Some now) n cdb bytes (next, r) → Serves h mid next lun now n cdb bytes r
-serves h mid next zero now n cdb bytes r there same step = naming_serves h mid next (named (drives_of now.device) cdb) now n cdb bytes r there same refl step
+serves h mid next zero now n cdb bytes r there same step = naming_serves h mid next (named (commands_of now.device) (drives_of now.device) cdb) now n cdb bytes r there same refl step
 serves h mid next (suc k) now n cdb bytes r there same step = alone_serves h mid next (suc k) now n cdb bytes r there same (λ w. let no = w.changer in cc) step
 
 -- a command that is made is served by the registrations, the reservation and the generation that stand at its unit
@@ -388,7 +388,7 @@ is_served h mid next lun now n cdb bytes r there same step =
       there = there;
       stays = s.stays;
       history = same;
-      leaves = s.leaves ∙ ap (λ (w : State). after_history w (accepted_by (kind_of now.device) n cdb bytes r.status)) same;
+      leaves = s.leaves ∙ ap (λ (w : State). after_history w (accepted_by (commands_of now.device) n cdb bytes r.status)) same;
       others = s.others;
       answer = s.answers;
       full = busy_where_full mid next h lun now s.left n cdb bytes r s.answers;

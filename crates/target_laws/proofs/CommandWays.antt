@@ -3,7 +3,7 @@
 use Rattle.std.proofs.Common.{◌≡◌, ◌<◌, ◌≤◌, ℕ, zero, suc, List, [], ◌∷◌, length, Option, Some, None, refl, sym, subst, inl, inr, arith}
 use Rattle.std.specs.Prelude.{◌⊎◌, slice_get}
 use Rattle.scsi_nexus.specs.declared.nexus.Nexus.{Nexus}
-use Rattle.device_server.specs.View.{drives_of}
+use Rattle.device_server.specs.View.{commands_of, drives_of}
 use Rattle.judgement.specs.Replies.{AnswersAbsent}
 use Rattle.judgement.specs.declared.reply.Reply.{Reply}
 use Rattle.logical_unit.specs.Move.{TwoDrives, MovesOne, MovesTwo}
@@ -35,7 +35,7 @@ module _ (c : UnitView) (ds : List UnitView) (n : Nexus) (cdb bytes : List ℕ) 
 
   pub record ToChanger (at : ℕ) : Type 0 where
     pub lun : at ≡ 0
-    pub names : named (drives_of c.device) cdb ≡ []
+    pub names : named (commands_of c.device) (drives_of c.device) cdb ≡ []
     pub step : AtUnit (c ∷ ds) 0 (Executes c n cdb bytes) (ms, r)
 
   pub record WithOne (at : ℕ) : Type 0 where
@@ -43,7 +43,7 @@ module _ (c : UnitView) (ds : List UnitView) (n : Nexus) (cdb bytes : List ℕ) 
     pub place : ℕ
     pub drive : UnitView
     pub there : slice_get ds place ≡ Some drive
-    pub names : named (drives_of c.device) cdb ≡ suc place ∷ []
+    pub names : named (commands_of c.device) (drives_of c.device) cdb ≡ suc place ∷ []
     pub step : AtDrive (c ∷ ds) (suc place) (MovesOne c drive n cdb bytes) (ms, r)
 
   pub record WithTwo (at : ℕ) : Type 0 where
@@ -54,14 +54,14 @@ module _ (c : UnitView) (ds : List UnitView) (n : Nexus) (cdb bytes : List ℕ) 
     pub drives : TwoDrives
     pub low_there : slice_get ds low ≡ Some drives.low
     pub high_there : slice_get ds high ≡ Some drives.high
-    pub names : named (drives_of c.device) cdb ≡ suc low ∷ suc high ∷ more
+    pub names : named (commands_of c.device) (drives_of c.device) cdb ≡ suc low ∷ suc high ∷ more
     pub step : AtDrives (c ∷ ds) (suc low) (suc high) (MovesTwo c drives n cdb bytes) (ms, r)
 
   abbrev pub Goes : (at : ℕ) → Type 0
   Goes at = ToNone at ⊎ (ToDrive at ⊎ (ToChanger at ⊎ (WithOne at ⊎ WithTwo at)))
 
   module _ (o : IsOrdered c ds) where
-    with_one : (l : ℕ) (d : Option UnitView) → slice_get (c ∷ ds) l ≡ d → named (drives_of c.device) cdb ≡ l ∷ [] → MovesWith (c ∷ ds) c l d n cdb bytes (ms, r) → Goes 0
+    with_one : (l : ℕ) (d : Option UnitView) → slice_get (c ∷ ds) l ≡ d → named (commands_of c.device) (drives_of c.device) cdb ≡ l ∷ [] → MovesWith (c ∷ ds) c l d n cdb bytes (ms, r) → Goes 0
     with_one zero d there names step = let w = one_named c.device cdb zero names in absurd (omega (arith, w.0))
     with_one (suc k) (Some d) there names step = inr (inr (inr (inl (record { lun = refl; place = k; drive = d; there = there; names = names; step = step }))))
     with_one (suc k) None there names step =
@@ -69,7 +69,7 @@ module _ (c : UnitView) (ds : List UnitView) (n : Nexus) (cdb bytes : List ℕ) 
         let within : suc k ≤ length ds = subst (λ i. suc k ≤ i) (has_drives c ds o) w.1 in
         absurd (missing ds k there (omega (arith, within)))
 
-    with_two : (l m : ℕ) (more : List ℕ) (d e : Option UnitView) → slice_get (c ∷ ds) l ≡ d → slice_get (c ∷ ds) m ≡ e → named (drives_of c.device) cdb ≡ l ∷ m ∷ more → MovesBetween (c ∷ ds) c l m d e n cdb bytes (ms, r) → Goes 0
+    with_two : (l m : ℕ) (more : List ℕ) (d e : Option UnitView) → slice_get (c ∷ ds) l ≡ d → slice_get (c ∷ ds) m ≡ e → named (commands_of c.device) (drives_of c.device) cdb ≡ l ∷ m ∷ more → MovesBetween (c ∷ ds) c l m d e n cdb bytes (ms, r) → Goes 0
     with_two zero m more d e first second names step = let w = two_named c.device cdb zero m more names in absurd (omega (arith, w.0))
     with_two (suc i) zero more d e first second names step = let w = two_named c.device cdb (suc i) zero more names in absurd (omega (arith, w.1))
     with_two (suc i) (suc j) more (Some d) (Some e) first second names step =
@@ -84,7 +84,7 @@ module _ (c : UnitView) (ds : List UnitView) (n : Nexus) (cdb bytes : List ℕ) 
         let within : suc j ≤ length ds = subst (λ k. suc j ≤ k) (has_drives c ds o) w.2 in
         absurd (missing ds j second (omega (arith, within)))
 
-    naming : (names : List ℕ) → named (drives_of c.device) cdb ≡ names → CommandsNaming (c ∷ ds) c names n cdb bytes (ms, r) → Goes 0
+    naming : (names : List ℕ) → named (commands_of c.device) (drives_of c.device) cdb ≡ names → CommandsNaming (c ∷ ds) c names n cdb bytes (ms, r) → Goes 0
     naming [] is step = inr (inr (inl (record { lun = refl; names = is; step = step })))
     naming (l ∷ []) is step = with_one l (slice_get (c ∷ ds) l) refl is step
     naming (l ∷ m ∷ more) is step = with_two l m more (slice_get (c ∷ ds) l) (slice_get (c ∷ ds) m) refl refl is step
@@ -93,5 +93,5 @@ module _ (c : UnitView) (ds : List UnitView) (n : Nexus) (cdb bytes : List ℕ) 
     goes at None there step = inl (record { gone = there; units = step.0; answer = step.1 })
     goes zero (Some w) there step =
         let is : w ≡ c = same_some w c (sym there) in
-        naming (named (drives_of c.device) cdb) refl (subst (λ (u : UnitView). CommandsNaming (c ∷ ds) u (named (drives_of u.device) cdb) n cdb bytes (ms, r)) is step)
+        naming (named (commands_of c.device) (drives_of c.device) cdb) refl (subst (λ (u : UnitView). CommandsNaming (c ∷ ds) u (named (commands_of u.device) (drives_of u.device) cdb) n cdb bytes (ms, r)) is step)
     goes (suc k) (Some w) there step = inr (inl (record { place = k; drive = w; lun = refl; there = there; step = step }))

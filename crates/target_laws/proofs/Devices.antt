@@ -4,7 +4,7 @@ use Rattle.std.specs.Prelude.{◌⊎◌, ◌&&◌, cond}
 use Rattle.scsi_cdb.specs.Commands.{decoded}
 use Rattle.scsi_cdb.specs.declared.fault.CdbFault.{CdbFault}
 use Rattle.scsi_cdb.specs.declared.fault.CdbFault.TheVariants.{Opcode, ShortCdb, ServiceAction, Naca}
-use Rattle.scsi_cdb.specs.declared.kind.Kind as cdb_kind
+use Rattle.scsi_cdb.specs.declared.profile.CommandSet.{CommandSet}
 use Rattle.scsi_cdb.specs.declared.request.Request.{Request}
 use Rattle.scsi_cdb.specs.declared.request.Request.TheVariants as request
 use Rattle.scsi_nexus.specs.declared.nexus.Nexus.{Nexus}
@@ -15,7 +15,7 @@ use Rattle.scsi_sense.specs.declared.sense.Sense.{Sense}
 use Rattle.scsi_sense.specs.declared.status.Status.{Status}
 use Rattle.scsi_sense.specs.declared.status.Status.TheVariants.{Good}
 use Rattle.unit_attention.specs.declared.kind.Kind.{Kind}
-use Rattle.unit_attention.specs.declared.kind.Kind.TheVariants.{PowerOn, BusDeviceReset, NexusLoss, MediumChanged, ModeParametersChanged, ReservationsPreempted, ReservationsReleased, RegistrationsPreempted}
+use Rattle.unit_attention.specs.declared.kind.Kind.TheVariants.{PowerOn, BusDeviceReset, NexusLoss, MediumChanged, ModeParametersChanged, LogParametersChanged, ReservationsPreempted, ReservationsReleased, RegistrationsPreempted}
 use Rattle.permit_tables.specs.declared.cell.Cell.{Cell}
 use Rattle.pr_params.specs.Lists as lists
 use Rattle.pr_params.specs.declared.list_fault.ListLengthFault.{ListLengthFault}
@@ -27,7 +27,7 @@ use Rattle.permit_tables.specs.declared.pr_fault.PrFault.TheVariants.{InvalidFie
 use Rattle.audit_log.specs.declared.stage.Stage.TheVariants as stage
 use Rattle.audit_log.specs.declared.stage.Stage.TheVariants.{Fields}
 use Rattle.device_server.specs.Failures.{is_failure}
-use Rattle.device_server.specs.View.{DeviceView, kind_of, field_fault, performed}
+use Rattle.device_server.specs.View.{DeviceView, kind_of, commands_of, field_fault, performed}
 use Rattle.device_server.proofs.FailureLemmas.{fault_fails, field_free}
 use Rattle.judgement.specs.Conditions.{condition_of_fault, condition_of_attention, condition_of_refusal}
 use Rattle.judgement.specs.Replies.{busy, good, check, data_reply}
@@ -83,6 +83,7 @@ attention_free BusDeviceReset = refl
 attention_free NexusLoss = refl
 attention_free MediumChanged = refl
 attention_free ModeParametersChanged = refl
+attention_free LogParametersChanged = refl
 attention_free ReservationsPreempted = refl
 attention_free ReservationsReleased = refl
 attention_free RegistrationsPreempted = refl
@@ -111,8 +112,8 @@ decoding_by : (o : Result Request CdbFault) (bytes : List ℕ) → decoding_fail
 decoding_by (Ok q) bytes = command_free q bytes
 decoding_by (Err fault) bytes = fault_free fault
 
-pub decoding_free : (kind : cdb_kind.Kind) (cdb bytes : List ℕ) → decoding_fails (decoded_command kind cdb bytes) ≡ false
-decoding_free kind cdb bytes = decoding_by (decoded kind cdb) bytes
+pub decoding_free : (commands : CommandSet) (cdb bytes : List ℕ) → decoding_fails (decoded_command commands cdb bytes) ≡ false
+decoding_free commands cdb bytes = decoding_by (decoded commands cdb) bytes
 
 -- a device's command is the request that the CDB decodes to
 list_other : (o : Result OutParams ListLengthFault) (q : Request) → ◌≡◌ {A = Result Command Condition} (elim o [ Ok params ↦ Ok (ReserveOut params) | Err fault ↦ Err ParameterListLengthError ]) (Ok (Device q)) → ⊥
@@ -127,8 +128,8 @@ reads_by : (o : Result Request CdbFault) (bytes : List ℕ) (q : Request) → �
 reads_by (Ok p) bytes q h = command_reads p bytes q h
 reads_by (Err fault) bytes q h = absurd cc
 
-pub reads_device : (kind : cdb_kind.Kind) (cdb bytes : List ℕ) (q : Request) → decoded_command kind cdb bytes ≡ Ok (Device q) → decoded kind cdb ≡ Ok q
-reads_device kind cdb bytes q h = reads_by (decoded kind cdb) bytes q h
+pub reads_device : (commands : CommandSet) (cdb bytes : List ℕ) (q : Request) → decoded_command commands cdb bytes ≡ Ok (Device q) → decoded commands cdb ≡ Ok q
+reads_device commands cdb bytes q h = reads_by (decoded commands cdb) bytes q h
 
 -- HOW A COMMAND ENDS
 module _ (u : JudgedUnit) (n : Nexus) (bytes : List ℕ) where
@@ -193,10 +194,10 @@ unanswered device (Err condition) bytes = record { device = refl; free = refl }
 unanswered device (Ok (Device q)) bytes = inl (record { device = refl; refused = λ e. absurd cc; free = refl })
 unanswered device (Ok c) bytes = record { device = refl; free = refl }
 
-pub executed : (w v : UnitView) (n : Nexus) (cdb bytes : List ℕ) (r : Reply) → Executes w n cdb bytes (v, r) → Does w.device (decoded_command (kind_of w.device) cdb bytes) bytes v.device r.status r.sense
+pub executed : (w v : UnitView) (n : Nexus) (cdb bytes : List ℕ) (r : Reply) → Executes w n cdb bytes (v, r) → Does w.device (decoded_command (commands_of w.device) cdb bytes) bytes v.device r.status r.sense
 executed w v n cdb bytes r (inl e) =
-    let c = decoded_command (kind_of w.device) cdb bytes in
+    let c = decoded_command (commands_of w.device) cdb bytes in
     subst (λ (x : UnitView × Reply). Does w.device c bytes x.0.device x.1.status x.1.sense) (sym e) (unanswered w.device c bytes)
 executed w v n cdb bytes r (inr e) =
-    let c = decoded_command (kind_of w.device) cdb bytes in
-    subst (λ (x : UnitView × Reply). Does w.device c bytes x.0.device x.1.status x.1.sense) (sym e.2) (judged (contacted_present w n) n bytes c (decoding_free (kind_of w.device) cdb bytes))
+    let c = decoded_command (commands_of w.device) cdb bytes in
+    subst (λ (x : UnitView × Reply). Does w.device c bytes x.0.device x.1.status x.1.sense) (sym e.2) (judged (contacted_present w n) n bytes c (decoding_free (commands_of w.device) cdb bytes))

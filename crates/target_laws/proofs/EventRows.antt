@@ -15,6 +15,7 @@ use Rattle.target_laws.proofs.Sending.{busy_run}
 use Rattle.target_core.specs.declared.event.Event.{Event}
 use Rattle.target_core.specs.declared.event.Event.TheVariants as event
 use Rattle.target_core.specs.Run.{AtUnit, Commands, Steps, Runs}
+use Rattle.device_server.specs.View.{profile_of}
 use Rattle.target_laws.specs.Rows.{a, Sends, test_unit_ready, HasRun, attention_29, changer, drive, units, last_number_used, with_slots, IsBusyToA, BusyRuns, good_with, not_supported, met_a, LossesAndResets}
 
 never : (u : UnitView) → (has_room u.state a ≡ true → HasNumber u → ⊥) → IsBusyToA u
@@ -71,7 +72,7 @@ reset_row [] vs run = absurd run
 reset_row (r ∷ q ∷ rs) vs run = absurd run.2
 
 told_loss : (e : Event) → Sends e (a, test_unit_ready, []) → HasRun (changer ∷ met_a ∷ []) (event.Loss a 1 ∷ e ∷ []) (good_with 2 ∷ attention_29 0x07 3 ∷ [])
-unfolding commands.command_of
+unfolding commands.command_of profile_of
 told_loss e sends =
     let u = loses met_a a in
     record {
@@ -80,7 +81,7 @@ told_loss e sends =
     }
 
 told_reset : (e : Event) → Sends e (a, test_unit_ready, []) → HasRun (changer ∷ met_a ∷ []) (event.Reset 1 ∷ e ∷ []) (good_with 2 ∷ attention_29 0x03 3 ∷ [])
-unfolding commands.command_of
+unfolding commands.command_of profile_of
 told_reset e sends =
     let u = resets met_a in
     record {

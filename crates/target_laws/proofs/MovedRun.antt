@@ -6,10 +6,12 @@ use Rattle.std.proofs.lemmas.List.Sorted.{length_permutation, All-permutation}
 use Rattle.std.specs.Prelude.{◌&&◌, slice_get, if◌then◌else◌}
 use Rattle.scsi_cdb.specs.Commands as commands
 use Rattle.scsi_cdb.specs.declared.kind.Kind.TheVariants as kind
+use Rattle.scsi_cdb.specs.declared.profile.Profile.TheVariants.{Spec}
+use Rattle.scsi_cdb.specs.Kinds as cdb_kinds
 use Rattle.pr_core.specs.State.{keys_after}
 use Rattle.tape_medium.specs.declared.volume.Volume.{Volume}
 use Rattle.tape_medium.specs.declared.volume.VolumeTag.{VolumeTag}
-use Rattle.device_server.specs.View.{drives_of}
+use Rattle.device_server.specs.View.{commands_of, drives_of, profile_of}
 use Rattle.judgement.specs.declared.reply.Reply.{Reply}
 use Rattle.judgement.specs.Commands.{decoded_command}
 use Rattle.judgement.specs.UnitState.{has_room}
@@ -37,7 +39,7 @@ module _ (c d : UnitView) where
   to_drive (event.Loss n lun) asked with_it h room number = absurd h
   to_drive (event.Reset lun) asked with_it h room number = absurd h
 
-  to_changer : (e : Event) (cdb bytes : List ℕ) → Sends e (0, cdb, bytes) → named (drives_of c.device) cdb ≡ [] → has_room c.state a ≡ true → ltb (last_number c + 1) (2 ^ 64) ≡ true
+  to_changer : (e : Event) (cdb bytes : List ℕ) → Sends e (0, cdb, bytes) → named (commands_of c.device) (drives_of c.device) cdb ≡ [] → has_room c.state a ≡ true → ltb (last_number c + 1) (2 ^ 64) ≡ true
       → Steps (c ∷ d ∷ []) e ((answered c a cdb bytes).0 ∷ d ∷ [], (answered c a cdb bytes).1)
   to_changer (event.Command n lun cdb bytes) asked with_it h names room number =
       let us = c ∷ d ∷ [] in
@@ -47,7 +49,7 @@ module _ (c d : UnitView) where
   to_changer (event.Loss n lun) asked with_it h names room number = absurd h
   to_changer (event.Reset lun) asked with_it h names room number = absurd h
 
-  with_drive : (e : Event) (cdb bytes : List ℕ) → Sends e (0, cdb, bytes) → named (drives_of c.device) cdb ≡ 1 ∷ [] → has_room c.state a ≡ true → ltb (last_number c + 1) (2 ^ 64) ≡ true → ltb (last_number d + 1) (2 ^ 64) ≡ true
+  with_drive : (e : Event) (cdb bytes : List ℕ) → Sends e (0, cdb, bytes) → named (commands_of c.device) (drives_of c.device) cdb ≡ 1 ∷ [] → has_room c.state a ≡ true → ltb (last_number c + 1) (2 ^ 64) ≡ true → ltb (last_number d + 1) (2 ^ 64) ≡ true
       → let x = moved_one c d a cdb bytes in Steps (c ∷ d ∷ []) e (x.0.0 ∷ x.1 ∷ [], x.0.1)
   with_drive (event.Command n lun cdb bytes) asked with_it h names room number other =
       let us = c ∷ d ∷ [] in
@@ -60,18 +62,18 @@ module _ (c d : UnitView) where
 
 -- what it carried, and whether it wrote
 abbrev carried_as : (lun : ℕ) → (cdb bytes : List ℕ) → Reply → Option Way
-carried_as zero cdb bytes r = if is_good r.status then way_of (decoded_command kind.Changer cdb bytes) else None
+carried_as zero cdb bytes r = if is_good r.status then way_of (decoded_command (cdb_kinds.commands Spec kind.Changer) cdb bytes) else None
 carried_as (suc k) cdb bytes r = None
 
-way_sent : (e : Event) (s : Sending) (r : Reply) → Sends e s → carried_by e r ≡ carried_as s.0 s.1 s.2 r
+way_sent : (e : Event) (s : Sending) (r : Reply) → Sends e s → carried_by Spec e r ≡ carried_as s.0 s.1 s.2 r
 way_sent (event.Command n zero cdb bytes) s r h = ap (λ x. carried_as 0 x bytes.items r) h.2 ∙ ap (λ x. carried_as 0 s.1 x r) h.3 ∙ ap (λ lun. carried_as lun s.1 s.2 r) h.1
 way_sent (event.Command n (suc k) cdb bytes) s r h = ap (λ lun. carried_as lun s.1 s.2 r) h.1
 way_sent (event.Loss n lun) s r h = absurd h
 way_sent (event.Reset lun) s r h = absurd h
 
-writing_sent : (e : Event) (s : Sending) (r : Reply) → Sends e s → is_written e r ≡ (is_good r.status && writes (decoded_command kind.Drive s.1 s.2))
+writing_sent : (e : Event) (s : Sending) (r : Reply) → Sends e s → is_written Spec e r ≡ (is_good r.status && writes (decoded_command (cdb_kinds.commands Spec kind.Drive) s.1 s.2))
 writing_sent (event.Command n lun cdb bytes) s r h =
-    ap (λ x. is_good r.status && writes (decoded_command kind.Drive x bytes.items)) h.2 ∙ ap (λ x. is_good r.status && writes (decoded_command kind.Drive s.1 x)) h.3
+    ap (λ x. is_good r.status && writes (decoded_command (cdb_kinds.commands Spec kind.Drive) x bytes.items)) h.2 ∙ ap (λ x. is_good r.status && writes (decoded_command (cdb_kinds.commands Spec kind.Drive) s.1 x)) h.3
 writing_sent (event.Loss n lun) s r h = absurd h
 writing_sent (event.Reset lun) s r h = absurd h
 
@@ -83,20 +85,20 @@ ways_of (s ∷ l) (r ∷ rs) = carried_as s.0 s.1 s.2 r ∷ ways_of l rs
 ways_of l rs = []
 
 abbrev writings_of : List Sending → List Reply → List Bool
-writings_of (s ∷ l) (r ∷ rs) = (is_good r.status && writes (decoded_command kind.Drive s.1 s.2)) ∷ writings_of l rs
+writings_of (s ∷ l) (r ∷ rs) = (is_good r.status && writes (decoded_command (cdb_kinds.commands Spec kind.Drive) s.1 s.2)) ∷ writings_of l rs
 writings_of l rs = []
 
 ways_sent : (es : List Event) (l : List Sending) (rs : List Reply) → AllSend es l → ways es rs ≡ ways_of l rs
 ways_sent [] [] rs h = refl
 ways_sent (e ∷ es) (s ∷ l) [] h = refl
-ways_sent (e ∷ es) (s ∷ l) (r ∷ rs) h = each (carried_by e r) (carried_as s.0 s.1 s.2 r) (ways es rs) (ways_of l rs) (way_sent e s r h.0) (ways_sent es l rs h.1)
+ways_sent (e ∷ es) (s ∷ l) (r ∷ rs) h = each (carried_by Spec e r) (carried_as s.0 s.1 s.2 r) (ways es rs) (ways_of l rs) (way_sent e s r h.0) (ways_sent es l rs h.1)
 ways_sent [] (s ∷ l) rs h = absurd h
 ways_sent (e ∷ es) [] rs h = absurd h
 
 writings_sent : (es : List Event) (l : List Sending) (rs : List Reply) → AllSend es l → writings es rs ≡ writings_of l rs
 writings_sent [] [] rs h = refl
 writings_sent (e ∷ es) (s ∷ l) [] h = refl
-writings_sent (e ∷ es) (s ∷ l) (r ∷ rs) h = each (is_written e r) (is_good r.status && writes (decoded_command kind.Drive s.1 s.2)) (writings es rs) (writings_of l rs) (writing_sent e s r h.0) (writings_sent es l rs h.1)
+writings_sent (e ∷ es) (s ∷ l) (r ∷ rs) h = each (is_written Spec e r) (is_good r.status && writes (decoded_command (cdb_kinds.commands Spec kind.Drive) s.1 s.2)) (writings es rs) (writings_of l rs) (writing_sent e s r h.0) (writings_sent es l rs h.1)
 writings_sent [] (s ∷ l) rs h = absurd h
 writings_sent (e ∷ es) [] rs h = absurd h
 
@@ -124,7 +126,7 @@ replies_are = loaded.0.1 ∷ told.1 ∷ wrote.1 ∷ refused.1 ∷ unloaded.0.1 �
 
 first_run : (e f g : Event) → AllSend (e ∷ f ∷ g ∷ []) ((0, move slot_1 drive_1, []) ∷ (1, test_unit_ready, []) ∷ (1, write, 7 ∷ 8 ∷ []) ∷ [])
     → Runs stocked (e ∷ f ∷ g ∷ []) (loaded.0.1 ∷ told.1 ∷ wrote.1 ∷ []) (loaded.0.0 ∷ wrote.0 ∷ [])
-unfolding commands.command_of keys_after
+unfolding commands.command_of profile_of keys_after
 first_run e f g h = (
   loaded.0.0 ∷ loaded.1 ∷ [],
   with_drive stock (empty_drive 1) e (move slot_1 drive_1) [] h.0 refl refl refl refl,
@@ -136,7 +138,7 @@ first_run e f g h = (
 )
 
 last_run : (e f : Event) → AllSend (e ∷ f ∷ []) ((0, move slot_1 slot_2, []) ∷ (0, move drive_1 slot_2, []) ∷ []) → Runs (loaded.0.0 ∷ wrote.0 ∷ []) (e ∷ f ∷ []) (refused.1 ∷ unloaded.0.1 ∷ []) (unloaded.0.0 ∷ unloaded.1 ∷ [])
-unfolding commands.command_of keys_after
+unfolding commands.command_of profile_of keys_after
 last_run e f h = (
   refused.0 ∷ wrote.0 ∷ [],
   to_changer loaded.0.0 wrote.0 e (move slot_1 slot_2) [] h.0 refl refl refl,
@@ -144,7 +146,7 @@ last_run e f h = (
 )
 
 pub moved_run : (es : List Event) → AllSend es sent → IsMovedRun es
-unfolding commands.command_of keys_after
+unfolding commands.command_of profile_of keys_after
 moved_run (e ∷ f ∷ g ∷ i ∷ j ∷ []) h = record {
   replies = replies_are;
   written = loaded.0.0 ∷ wrote.0 ∷ [];
@@ -175,7 +177,7 @@ abbrev failed : (UnitView × Reply) × UnitView
 failed = moved_one false_stock (empty_drive 1) a (move drive_1 slot_2) []
 
 pub failed_run : (es : List Event) → AllSend es sent_out → IsFailedRun es
-unfolding commands.command_of keys_after
+unfolding commands.command_of profile_of keys_after
 failed_run (e ∷ []) h = record {
   no_target = refl;
   reply = failed.0.1;

@@ -6,6 +6,7 @@ use Rattle.std.proofs.lemmas.Map.Views.{exact_unsigned_eq}
 use Rattle.scsi_cdb.specs.Commands.{decoded}
 use Rattle.scsi_cdb.specs.declared.fault.CdbFault.{CdbFault}
 use Rattle.scsi_cdb.specs.declared.kind.Kind.{Kind}
+use Rattle.scsi_cdb.specs.declared.profile.CommandSet.{CommandSet}
 use Rattle.scsi_cdb.specs.declared.kind.Kind.TheVariants as kind
 use Rattle.scsi_cdb.specs.declared.request.Request.{Request}
 use Rattle.scsi_cdb.specs.declared.request.Request.TheVariants as request
@@ -17,7 +18,7 @@ use Rattle.scsi_sense.specs.declared.sense.Sense.{Sense}
 use Rattle.scsi_sense.specs.declared.status.Status.{Status}
 use Rattle.tape_medium.specs.Elements.{Elements, Transport, DataTransfer, ImportExport, Storage, Nowhere, first_data_transfer, first_import_export, first_storage, is_among, element_at, move_refusal}
 use Rattle.device_server.specs.Failures.{is_failure, is_data_transfer, is_for_drives}
-use Rattle.device_server.specs.View.{DeviceView, Drive, Changer, kind_of, drives_of, held_in, performed}
+use Rattle.device_server.specs.View.{DeviceView, Drive, Changer, kind_of, commands_of, drives_of, held_in, performed}
 use Rattle.device_server.proofs.FailureLemmas.{drives_never_fail, changers_fail_for_drives}
 use Rattle.judgement.specs.Replies.{check, AnswersAbsent}
 use Rattle.judgement.specs.declared.reply.Reply.{Reply}
@@ -59,7 +60,7 @@ drive_steps (Changer e) q bytes k = absurd cc
 
 drive_free : (w v : UnitView) (n : Nexus) (cdb bytes : List ℕ) (r : Reply) → kind_of w.device ≡ kind.Drive → Executes w n cdb bytes (v, r) → is_failure r.sense ≡ false
 drive_free w v n cdb bytes r k step =
-    device_free w.device v.device (decoded_command (kind_of w.device) cdb bytes) bytes r.status r.sense (executed w v n cdb bytes r step) (λ q is. drive_steps w.device q bytes k)
+    device_free w.device v.device (decoded_command (commands_of w.device) cdb bytes) bytes r.status r.sense (executed w v n cdb bytes r step) (λ q is. drive_steps w.device q bytes k)
 
 -- the changer's, of a command that names no drive, doesn't
 chosen_other : (transport drive portal slot : Bool) (at i j k : ℕ) → cond drive (Some at) None ≡ None
@@ -91,31 +92,31 @@ either_false true true = refl
 either_false true false = refl
 either_false false y = refl
 
-alone : (e : Elements) (cdb : List ℕ) (q : Request) → named (length e.data_transfer) cdb ≡ [] → decoded kind.Changer cdb ≡ Ok q → is_for_drives e q ≡ false
-alone e cdb (request.MoveMedium transport source destination invert) names reads =
+alone : (e : Elements) (commands : CommandSet) (cdb : List ℕ) (q : Request) → named commands (length e.data_transfer) cdb ≡ [] → decoded commands cdb ≡ Ok q → is_for_drives e q ≡ false
+alone e commands cdb (request.MoveMedium transport source destination invert) names reads =
     let size = length e.data_transfer in
     let ends = none_named (drive_at size source) (drive_at size destination) (sym (ap (λ (o : Result Request CdbFault). named_in (route_by size o)) reads) ∙ names) in
     let free = is_none (move_refusal e transport source destination) in
     ap (λ b. not invert && (free && (b || is_data_transfer (element_at e destination)))) (other_element e source ends.0)
     ∙ ap (λ b. not invert && (free && b)) (other_element e destination ends.1)
     ∙ either_false (not invert) free
-alone e cdb q names reads = refl
+alone e commands cdb q names reads = refl
 
-changer_steps : (device : DeviceView) (cdb : List ℕ) (q : Request) (bytes : List ℕ) → kind_of device ≡ kind.Changer → named (drives_of device) cdb ≡ [] → decoded kind.Changer cdb ≡ Ok q → is_failure (performed device q bytes).1.sense ≡ false
+changer_steps : (device : DeviceView) (cdb : List ℕ) (q : Request) (bytes : List ℕ) → kind_of device ≡ kind.Changer → named (commands_of device) (drives_of device) cdb ≡ [] → decoded (commands_of device) cdb ≡ Ok q → is_failure (performed device q bytes).1.sense ≡ false
 changer_steps (Drive d) cdb q bytes k names reads = absurd cc
-changer_steps (Changer e) cdb q bytes k names reads = changers_fail_for_drives e q bytes ∙ alone e cdb q names reads
+changer_steps (Changer e) cdb q bytes k names reads = changers_fail_for_drives e q bytes ∙ alone e (commands_of (Changer e)) cdb q names reads
 
-changer_free : (c v : UnitView) (n : Nexus) (cdb bytes : List ℕ) (r : Reply) → kind_of c.device ≡ kind.Changer → named (drives_of c.device) cdb ≡ [] → Executes c n cdb bytes (v, r) → is_failure r.sense ≡ false
+changer_free : (c v : UnitView) (n : Nexus) (cdb bytes : List ℕ) (r : Reply) → kind_of c.device ≡ kind.Changer → named (commands_of c.device) (drives_of c.device) cdb ≡ [] → Executes c n cdb bytes (v, r) → is_failure r.sense ≡ false
 changer_free c v n cdb bytes r k names step =
-    device_free c.device v.device (decoded_command (kind_of c.device) cdb bytes) bytes r.status r.sense (executed c v n cdb bytes r step)
-    (λ q is. changer_steps c.device cdb q bytes k names (subst (λ (x : Kind). decoded x cdb ≡ Ok q) k (reads_device (kind_of c.device) cdb bytes q is)))
+    device_free c.device v.device (decoded_command (commands_of c.device) cdb bytes) bytes r.status r.sense (executed c v n cdb bytes r step)
+    (λ q is. changer_steps c.device cdb q bytes k names (reads_device (commands_of c.device) cdb bytes q is))
 
 -- A MOVE. What is left to the drives, the changer's map and marks allow
 left_at : (c : UnitView) (n : Nexus) (cdb bytes : List ℕ) (l : ℕ) (more : List ℕ) (q : HasRoute c.device cdb l more) → is_left (judged_at c n cdb bytes).2.sense ≡ true → IsAllowed c.device q.route
 left_at c n cdb bytes l more q left =
     let u = contacted_present c n in
     let move = request.MoveMedium q.decodes.transport q.route.source q.route.destination q.decodes.invert in
-    let does = judged u n bytes (decoded_command (kind_of c.device) cdb bytes) (decoding_free (kind_of c.device) cdb bytes) in
+    let does = judged u n bytes (decoded_command (commands_of c.device) cdb bytes) (decoding_free (commands_of c.device) cdb bytes) in
     let here : DoesAs u (Ok (Device move)) bytes (judged_at c n cdb bytes) = subst (λ (s : Result Command Condition). DoesAs u s bytes (judged_at c n cdb bytes)) (decodes_move c.device cdb bytes l more q) does in
     elim here [
       | inl unreached ↦ let free = unreached.free in absurd cc
@@ -128,7 +129,7 @@ ended_free {A} c v n cdb bytes r drives after answer (Ok it) e free = ap (λ (x 
 ended_free {A} c v n cdb bytes r drives after answer (Err condition) e free = ap (λ (x : (UnitView × Reply) × A). is_failure x.0.1.sense) e ∙ free
 
 concluded_free : {A : Type 0} (c v : UnitView) (n : Nexus) (cdb bytes : List ℕ) (r : Reply) (drives after : A) (answer : JudgedUnit × Decision × Reply) (carried : Result (DeviceView × A) Condition) (left : Bool) → is_left answer.2.sense ≡ left
-    → ((v, r), after) ≡ concluded_by left (recorded c n (act_of (kind_of c.device) cdb bytes) answer, drives) (ended c n cdb bytes drives answer carried)
+    → ((v, r), after) ≡ concluded_by left (recorded c n (act_of (commands_of c.device) cdb bytes) answer, drives) (ended c n cdb bytes drives answer carried)
     → (left ≡ true → carrying_fails carried ≡ false) → is_failure r.sense ≡ false
 concluded_free {A} c v n cdb bytes r drives after answer carried true left e free = ended_free c v n cdb bytes r drives after answer carried e (free refl)
 concluded_free {A} c v n cdb bytes r drives after answer carried false left e free = ap (λ (x : (UnitView × Reply) × A). is_failure x.0.1.sense) e ∙ left
@@ -157,7 +158,7 @@ module _ (c : UnitView) (ds : List UnitView) (o : IsOrdered c ds) (n : Nexus) (c
       let empty : held_in c.device q.source ≡ None = ap (held_in c.device) same ∙ a.empty in
       absurd cc
 
-  one_free : (k : ℕ) (d e : UnitView) → slice_get ds k ≡ Some d → named (drives_of c.device) cdb ≡ suc k ∷ [] → MovesOne c d n cdb bytes ((v, r), e) → is_failure r.sense ≡ false
+  one_free : (k : ℕ) (d e : UnitView) → slice_get ds k ≡ Some d → named (commands_of c.device) (drives_of c.device) cdb ≡ suc k ∷ [] → MovesOne c d n cdb bytes ((v, r), e) → is_failure r.sense ≡ false
   one_free k d e there names (inl busy) = ap (λ (x : (UnitView × Reply) × UnitView). is_failure x.0.1.sense) busy
   one_free k d e there names (inr moves) =
       let q = has_route c.device cdb (suc k) [] names in
@@ -189,7 +190,7 @@ module _ (c : UnitView) (ds : List UnitView) (o : IsOrdered c ds) (n : Nexus) (c
       (drive_gives c ds q j ds'.high o a (drive_of c ds j ds'.high o high).kind (sym f ∙ down.from_is) high)
       (drive_receives c ds q i ds'.low o a (drive_of c ds i ds'.low o low).kind (sym t ∙ down.to_is) low))
 
-  two_free : (i j : ℕ) (more : List ℕ) (ds' es : TwoDrives) → slice_get ds i ≡ Some ds'.low → slice_get ds j ≡ Some ds'.high → named (drives_of c.device) cdb ≡ suc i ∷ suc j ∷ more → MovesTwo c ds' n cdb bytes ((v, r), es) → is_failure r.sense ≡ false
+  two_free : (i j : ℕ) (more : List ℕ) (ds' es : TwoDrives) → slice_get ds i ≡ Some ds'.low → slice_get ds j ≡ Some ds'.high → named (commands_of c.device) (drives_of c.device) cdb ≡ suc i ∷ suc j ∷ more → MovesTwo c ds' n cdb bytes ((v, r), es) → is_failure r.sense ≡ false
   two_free i j more ds' es low high names (inl busy) = ap (λ (x : (UnitView × Reply) × TwoDrives). is_failure x.0.1.sense) busy
   two_free i j more ds' es low high names (inr moves) =
       let q = has_route c.device cdb (suc i) (suc j ∷ more) names in

@@ -2,9 +2,9 @@
 use Rattle.std.proofs.Common.{◌≡◌, ℕ, zero, suc, List, [], ◌∷◌, ◌++◌, Some, refl, sym, ap, ◌∙◌, length}
 use Rattle.std.proofs.lemmas.List.Sums.{fold-append}
 use Rattle.std.specs.Prelude.{slice_get, slice_set}
-use Rattle.scsi_cdb.specs.declared.kind.Kind.{Kind}
+use Rattle.scsi_cdb.specs.declared.profile.CommandSet.{CommandSet}
 use Rattle.pr_core.specs.State.{State}
-use Rattle.device_server.specs.View.{kind_of}
+use Rattle.device_server.specs.View.{commands_of}
 use Rattle.judgement.specs.declared.reply.Reply.{Reply}
 use Rattle.judgement.specs.History.{after_history}
 use Rattle.logical_unit.specs.UnitView.{UnitView}
@@ -30,9 +30,9 @@ parts us vs (e ∷ es) fs (r ∷ rs) qs same run =
 parts us vs [] fs (r ∷ rs) qs same run = absurd cc
 parts us vs (e ∷ es) fs [] qs same run = absurd cc
 
--- a unit stays at its place along a run, of its kind, with what its history leaves
-pub run_grows : (us vs : List UnitView) (es : List Event) (rs : List Reply) (lun : ℕ) (u : UnitView) → Runs us es rs vs → slice_get us lun ≡ Some u → Grows u vs lun (accepted_in (kind_of u.device) lun es rs)
-run_grows us vs [] [] lun u run here = record { unit = u; place = ap (λ (xs : List UnitView). slice_get xs lun) run ∙ here; kind = refl; history = refl }
+-- a unit stays at its place along a run, with its commands, and what its history leaves
+pub run_grows : (us vs : List UnitView) (es : List Event) (rs : List Reply) (lun : ℕ) (u : UnitView) → Runs us es rs vs → slice_get us lun ≡ Some u → Grows u vs lun (accepted_in (commands_of u.device) lun es rs)
+run_grows us vs [] [] lun u run here = record { unit = u; place = ap (λ (xs : List UnitView). slice_get xs lun) run ∙ here; commands = refl; history = refl }
 run_grows us vs (e ∷ es) (r ∷ rs) lun u run here =
     let g = step_grows us run.0 e r lun u run.1 here in
     let m = g.unit in
@@ -40,12 +40,12 @@ run_grows us vs (e ∷ es) (r ∷ rs) lun u run here =
     record {
       unit = k.unit;
       place = k.place;
-      kind = k.kind ∙ g.kind;
+      commands = k.commands ∙ g.commands;
       history =
           k.history
-          ∙ ap (λ (kind : Kind). after_history m.state.reservations (accepted_in kind lun es rs)) g.kind
-          ∙ ap (λ (w : State). after_history w (accepted_in (kind_of u.device) lun es rs)) g.history
-          ∙ sym (fold-append _ u.state.reservations (accepted_at (kind_of u.device) lun e r) (accepted_in (kind_of u.device) lun es rs));
+          ∙ ap (λ (commands : CommandSet). after_history m.state.reservations (accepted_in commands lun es rs)) g.commands
+          ∙ ap (λ (w : State). after_history w (accepted_in (commands_of u.device) lun es rs)) g.history
+          ∙ sym (fold-append _ u.state.reservations (accepted_at (commands_of u.device) lun e r) (accepted_in (commands_of u.device) lun es rs));
     }
 run_grows us vs [] (r ∷ rs) lun u run here = absurd run
 run_grows us vs (e ∷ es) [] lun u run here = absurd run

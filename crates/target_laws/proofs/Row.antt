@@ -2,10 +2,10 @@
 use Rattle.std.proofs.Common.{◌≡◌, ℕ, zero, suc, ◌+◌, ◌^◌, Bool, true, false, ◌&&◌, ltb, List, [], ◌∷◌, ◌++◌, inr, refl, ap, ◌∙◌, take}
 use Rattle.std.proofs.lemmas.Bool.{ltb-true}
 use Rattle.scsi_cdb.specs.Commands as cdb
-use Rattle.scsi_cdb.specs.declared.kind.Kind.{Kind}
+use Rattle.scsi_cdb.specs.declared.profile.CommandSet.{CommandSet}
 use Rattle.tape_medium.specs.declared.volume.VolumeTag.{VolumeTag}
 use Rattle.pr_core.specs.State.{keys_after}
-use Rattle.device_server.specs.View.{kind_of}
+use Rattle.device_server.specs.View.{commands_of, profile_of}
 use Rattle.judgement.specs.declared.reply.Reply.{Reply}
 use Rattle.judgement.specs.History.{Accepted, accepted_by, after_history}
 use Rattle.judgement.specs.UnitState.{has_room}
@@ -41,9 +41,9 @@ and_right true y e = e
 and_right false y e = absurd cc
 
 -- the history that commands add at one unit
-abbrev added : Kind → List Sending → List Reply → List Accepted
-added kind (s ∷ l) (r ∷ rs) = accepted_by kind s.0 s.1 s.2 r.status ++ added kind l rs
-added kind l rs = []
+abbrev added : CommandSet → List Sending → List Reply → List Accepted
+added commands (s ∷ l) (r ∷ rs) = accepted_by commands s.0 s.1 s.2 r.status ++ added commands l rs
+added commands l rs = []
 
 pub step : (u : UnitView) (e : Event) (s : Sending) → Sends e s → has_room u.state s.0 ≡ true → ltb (last_number u + 1) (2 ^ 64) ≡ true → Steps (changer ∷ u ∷ []) e (changer ∷ (answered u s.0 s.1 s.2).0 ∷ [], (answered u s.0 s.1 s.2).1)
 step u (event.Command n lun cdb bytes) s h room number =
@@ -64,30 +64,30 @@ runs u (e ∷ es) (s ∷ l) h opens =
 runs u [] (s ∷ l) h opens = absurd h
 runs u (e ∷ es) [] h opens = absurd h
 
-one : (kind : Kind) (e : Event) (s : Sending) (r : Reply) → Sends e s → accepted_at kind 1 e r ≡ accepted_by kind s.0 s.1 s.2 r.status
-one kind (event.Command n lun cdb bytes) s r h = rw (h.0, h.1, h.2, h.3) refl
-one kind (event.Loss n lun) s r h = absurd h
-one kind (event.Reset lun) s r h = absurd h
+one : (commands : CommandSet) (e : Event) (s : Sending) (r : Reply) → Sends e s → accepted_at commands 1 e r ≡ accepted_by commands s.0 s.1 s.2 r.status
+one commands (event.Command n lun cdb bytes) s r h = rw (h.0, h.1, h.2, h.3) refl
+one commands (event.Loss n lun) s r h = absurd h
+one commands (event.Reset lun) s r h = absurd h
 
-adds : (kind : Kind) (k : ℕ) (es : List Event) (l : List Sending) (rs : List Reply) → AllSend es l → accepted_in kind 1 (take k es) rs ≡ added kind (take k l) rs
-adds kind zero es l rs h = refl
-adds kind (suc k) [] [] rs h = refl
-adds kind (suc k) (e ∷ es) (s ∷ l) [] h = refl
-adds kind (suc k) (e ∷ es) (s ∷ l) (r ∷ rs) h = ap (λ (x : List Accepted). x ++ accepted_in kind 1 (take k es) rs) (one kind e s r h.0) ∙ ap (λ (x : List Accepted). accepted_by kind s.0 s.1 s.2 r.status ++ x) (adds kind k es l rs h.1)
-adds kind (suc k) [] (s ∷ l) rs h = absurd h
-adds kind (suc k) (e ∷ es) [] rs h = absurd h
+adds : (commands : CommandSet) (k : ℕ) (es : List Event) (l : List Sending) (rs : List Reply) → AllSend es l → accepted_in commands 1 (take k es) rs ≡ added commands (take k l) rs
+adds commands zero es l rs h = refl
+adds commands (suc k) [] [] rs h = refl
+adds commands (suc k) (e ∷ es) (s ∷ l) [] h = refl
+adds commands (suc k) (e ∷ es) (s ∷ l) (r ∷ rs) h = ap (λ (x : List Accepted). x ++ accepted_in commands 1 (take k es) rs) (one commands e s r h.0) ∙ ap (λ (x : List Accepted). accepted_by commands s.0 s.1 s.2 r.status ++ x) (adds commands k es l rs h.1)
+adds commands (suc k) [] (s ∷ l) rs h = absurd h
+adds commands (suc k) (e ∷ es) [] rs h = absurd h
 
 is_open_sent : (tag : VolumeTag) → is_open (drive tag) sent ≡ true
-unfolding cdb.command_of keys_after
+unfolding cdb.command_of profile_of keys_after
 is_open_sent tag = refl
 
 -- what stands before the k-th command
 module _ (tag : VolumeTag) (es : List Event) (h : AllSend es sent) where
-  by : (k : ℕ) → by_history (drive tag) 1 (take k es) (take k (replies_of (drive tag) sent)) ≡ after_history (drive tag).state.reservations (added (kind_of (drive tag).device) (take k sent) (take k (replies_of (drive tag) sent)))
-  by k = ap (λ (x : List Accepted). after_history (drive tag).state.reservations x) (adds (kind_of (drive tag).device) k es sent (take k (replies_of (drive tag) sent)) h)
+  by : (k : ℕ) → by_history (drive tag) 1 (take k es) (take k (replies_of (drive tag) sent)) ≡ after_history (drive tag).state.reservations (added (commands_of (drive tag).device) (take k sent) (take k (replies_of (drive tag) sent)))
+  by k = ap (λ (x : List Accepted). after_history (drive tag).state.reservations x) (adds (commands_of (drive tag).device) k es sent (take k (replies_of (drive tag) sent)) h)
 
 pub worked : (tag : VolumeTag) (es : List Event) → AllSend es sent → IsWorked tag es
-unfolding cdb.command_of keys_after
+unfolding cdb.command_of profile_of keys_after
 worked tag es h = record {
   replies = replies_of (drive tag) sent;
   last = last_of (drive tag) sent;

@@ -5,7 +5,7 @@ use Rattle.std.specs.Prelude.{◌⊎◌, cond, slice_get, slice_set}
 use Rattle.scsi_sense.specs.declared.condition.Condition.{Condition}
 use Rattle.tape_medium.specs.declared.volume.Volume.{Volume}
 use Rattle.tape_medium.specs.declared.volume.VolumeTag.{VolumeTag}
-use Rattle.device_server.specs.View.{DeviceView, drives_of, marked}
+use Rattle.device_server.specs.View.{DeviceView, commands_of, drives_of, marked}
 use Rattle.device_server.specs.Volumes.{volume_at, SameVolume, SameAt, GoesOut, GoesIn}
 use Rattle.device_server.specs.declared.fault.BadPlace.{BadPlace}
 use Rattle.device_server.proofs.PlaceLemmas.{takes_one, puts_one, marks_move_nothing}
@@ -155,7 +155,7 @@ module _ (c v : UnitView) (ds : List UnitView) (o : IsOrdered c ds) (cdb : List 
       loaded_carries c v ds q k d e there (among q.source None (sym f)) (among q.destination (Some (suc k)) (sym t ∙ ap some_of is)) h
   by_one q k d e (Some l) (Some m) there f t names h = absurd cc
 
-  pub one_carries : (k : ℕ) (d e : UnitView) (names : named (drives_of c.device) cdb ≡ suc k ∷ []) → slice_get ds k ≡ Some d → carried_one c.device d (route_at c cdb) ≡ Ok (v.device, e)
+  pub one_carries : (k : ℕ) (d e : UnitView) (names : named (commands_of c.device) (drives_of c.device) cdb ≡ suc k ∷ []) → slice_get ds k ≡ Some d → carried_one c.device d (route_at c cdb) ≡ Ok (v.device, e)
       → IsCarried (c ∷ ds) (v ∷ slice_set ds k e) (way (has_route c.device cdb (suc k) [] names).route)
   one_carries k d e names there h =
       let q = has_route c.device cdb (suc k) [] names in
@@ -189,7 +189,7 @@ module _ (c v : UnitView) (ds : List UnitView) (o : IsOrdered c ds) (cdb : List 
   by_two q i j ds' es apart low high f t (inr down) h =
       downward_carries q i j ds' es (passed c.device ds'.high ds'.low q) apart low high (among q.source (Some (suc j)) (sym f ∙ down.from_is)) (among q.destination (Some (suc i)) (sym t ∙ down.to_is)) refl (sym (ap (by_way ds' q) down.way) ∙ h)
 
-  pub two_carry : (i j : ℕ) (more : List ℕ) (ds' es : TwoDrives) (names : named (drives_of c.device) cdb ≡ suc i ∷ suc j ∷ more) → slice_get ds i ≡ Some ds'.low → slice_get ds j ≡ Some ds'.high → carried_two c.device ds' (route_at c cdb) ≡ Ok (v.device, es)
+  pub two_carry : (i j : ℕ) (more : List ℕ) (ds' es : TwoDrives) (names : named (commands_of c.device) (drives_of c.device) cdb ≡ suc i ∷ suc j ∷ more) → slice_get ds i ≡ Some ds'.low → slice_get ds j ≡ Some ds'.high → carried_two c.device ds' (route_at c cdb) ≡ Ok (v.device, es)
       → IsCarried (c ∷ ds) (v ∷ slice_set (slice_set ds i es.low) j es.high) (way (has_route c.device cdb (suc i) (suc j ∷ more) names).route)
   two_carry i j more ds' es names low high h =
       let q = has_route c.device cdb (suc i) (suc j ∷ more) names in

@@ -6,7 +6,7 @@ use Rattle.scsi_cdb.specs.declared.kind.Kind.TheVariants as kind
 use Rattle.tape_medium.specs.Elements.{Element}
 use Rattle.tape_medium.specs.Elements as elements
 use Rattle.tape_medium.specs.declared.volume.Volume.{Volume}
-use Rattle.device_server.specs.View.{DeviceView, Drive, Changer, kind_of, drives_of}
+use Rattle.device_server.specs.View.{DeviceView, Drive, Changer, kind_of, profile_of, drives_of}
 use Rattle.device_server.specs.Volumes.{volume_at, SameVolume, SameAt}
 use Rattle.device_server.proofs.TapeLemmas.{same_volume}
 use Rattle.judgement.specs.declared.reply.Reply.{Reply}
@@ -82,18 +82,18 @@ pub changer_same : (c v : UnitView) (ds : List UnitView) (address : ℕ) → v.d
 changer_same c v ds address is = by_element (λ before after. after ≡ before) c v ds ds address refl (λ k at. refl) (λ none. ap (λ (device : DeviceView). volume_at device address) is)
 
 -- or a drive, by an event to it
-pub drive_keeps : (c : UnitView) (ds : List UnitView) (k : ℕ) (d x : UnitView) (e : Event) (r : Reply) → slice_get ds k ≡ Some d → lun_of e ≡ suc k → SameAt (StaysSame true (is_written e r)) (volume_at d.device 0) (volume_at x.device 0)
-    → (address : ℕ) → SameAt (StaysSame (is_to e address) (is_written e r)) (volume_in (c ∷ ds) address) (volume_in (c ∷ slice_set ds k x) address)
+pub drive_keeps : (c : UnitView) (ds : List UnitView) (k : ℕ) (d x : UnitView) (e : Event) (r : Reply) → slice_get ds k ≡ Some d → lun_of e ≡ suc k → SameAt (StaysSame true (is_written (profile_of c.device) e r)) (volume_at d.device 0) (volume_at x.device 0)
+    → (address : ℕ) → SameAt (StaysSame (is_to e address) (is_written (profile_of c.device) e r)) (volume_in (c ∷ ds) address) (volume_in (c ∷ slice_set ds k x) address)
 drive_keeps c ds k d x e r there lun keeps address =
-    let Q : Option Volume → Option Volume → Type 0 = SameAt (StaysSame (is_to e address) (is_written e r)) in
+    let Q : Option Volume → Option Volume → Type 0 = SameAt (StaysSame (is_to e address) (is_written (profile_of c.device) e r)) in
     by_element Q c c ds (slice_set ds k x) address (length-set ds k x)
     (λ j at. beside_set Q ds k j d x there
     (λ same.
     let place = (drive_within (length ds) address (suc j) at).2 in
     let is : is_to e address ≡ true = eq-eqb address (lun_of e + 0xFF) (place ∙ ap (λ i. suc i + 0xFF) same ∙ ap (λ i. i + 0xFF) (sym lun)) in
-    subst (λ to. SameAt (StaysSame to (is_written e r)) (volume_at d.device 0) (volume_at x.device 0)) (sym is) keeps)
-    (λ apart. stays (is_to e address) (is_written e r) (bay_of (slice_get ds j))))
-    (λ none. stays (is_to e address) (is_written e r) (volume_at c.device address))
+    subst (λ to. SameAt (StaysSame to (is_written (profile_of c.device) e r)) (volume_at d.device 0) (volume_at x.device 0)) (sym is) keeps)
+    (λ apart. stays (is_to e address) (is_written (profile_of c.device) e r) (bay_of (slice_get ds j))))
+    (λ none. stays (is_to e address) (is_written (profile_of c.device) e r) (volume_at c.device address))
 
 -- the same volume, seen before and after
 pub record IsHeld (before : Option Volume) (v : Volume) : Type 0 where

@@ -2,7 +2,10 @@
 use Rattle.std.proofs.Common.{◌≡◌, ◌≢◌, ℕ, zero, suc, Bool, true, false, ◌&&◌, List, [], ◌∷◌, length, Option, Some, None, Result, Ok, Err, refl, sym, ap, ◌∙◌, subst, inl, inr}
 use Rattle.std.specs.Prelude.{◌⊎◌, cond, slice_get, slice_set}
 use Rattle.scsi_cdb.specs.declared.kind.Kind.{Kind}
+use Rattle.scsi_cdb.specs.declared.profile.CommandSet.{CommandSet}
+use Rattle.scsi_cdb.specs.declared.profile.Profile.{Profile}
 use Rattle.scsi_cdb.specs.declared.kind.Kind.TheVariants as kind
+use Rattle.scsi_cdb.specs.Kinds.{commands}
 use Rattle.scsi_cdb.specs.declared.request.Request.{Request}
 use Rattle.scsi_cdb.specs.declared.request.Request.TheVariants as request
 use Rattle.scsi_nexus.specs.declared.nexus.Nexus.{Nexus}
@@ -14,7 +17,7 @@ use Rattle.std.specs.Global.{Vec}
 use Rattle.arrayvec.specs.ArrayVec.{ArrayVec}
 use Rattle.unit_attention.specs.Queues.{has_slot}
 use Rattle.tape_medium.specs.declared.volume.Volume.{Volume}
-use Rattle.device_server.specs.View.{DeviceView, Drive, Changer, kind_of, drives_of, performed, reset_of}
+use Rattle.device_server.specs.View.{DeviceView, Drive, Changer, kind_of, profile_of, commands_of, drives_of, performed, reset_of}
 use Rattle.device_server.specs.Volumes.{volume_at, SameVolume, SameAt, Carries, is_write}
 use Rattle.device_server.proofs.MoveLemmas.{changers_stay, moves_carry_one}
 use Rattle.device_server.proofs.TapeLemmas.{drives_keep_their_volume, drives_keep_their_tape, resets_keep_volumes}
@@ -33,7 +36,7 @@ use Rattle.logical_unit.proofs.NamedDrives.{has_route}
 use Rattle.logical_unit.proofs.SameUnits.{decodes_move}
 use Rattle.target_core.specs.declared.event.Event.{Event}
 use Rattle.target_core.specs.declared.event.Event.TheVariants as event
-use Rattle.target_core.specs.Faults.{fault_of}
+use Rattle.target_core.specs.Faults.{fault_of, profile_in}
 use Rattle.target_core.specs.Run.{LosesAt, ResetsAt, Steps}
 use Rattle.target_laws.specs.Volumes.{volume_in, Way, way_of, carried_by, lun_of, is_to, writes, is_written, StaysSame, IsCarried, KeepsVolumes, VolumesStay}
 use Rattle.target_laws.proofs.CommandWays.{Goes, goes}
@@ -110,7 +113,7 @@ module _ (c v : UnitView) (ds : List UnitView) (o : IsOrdered c ds) where
       }
 
   by_carries : (e : Event) (r : Reply) (w : Option Way) → kind_of v.device ≡ kind.Changer → drives_of v.device ≡ drives_of c.device → CarriesBy c.device v.device w → KeepsVolumes (c ∷ ds) (v ∷ ds) e r w
-  by_carries e r None k size is = λ address. equal_stays (is_to e address) (is_written e r) (volume_in (c ∷ ds) address) (volume_in (v ∷ ds) address) (changer_same c v ds address is)
+  by_carries e r None k size is = λ address. equal_stays (is_to e address) (is_written (profile_of c.device) e r) (volume_in (c ∷ ds) address) (volume_in (v ∷ ds) address) (changer_same c v ds address is)
   by_carries e r (Some w) k size h = own_carries w k size h
 
 -- A COMMAND
@@ -119,79 +122,82 @@ module _ (c : UnitView) (ds : List UnitView) (o : IsOrdered c ds) (n : Nexus) (c
   asked at = event.Command n at cdb bytes
 
   -- at the changer alone
-  alone_keeps : (v : UnitView) → Executes c n cdb.items bytes.items (v, r) → KeepsVolumes (c ∷ ds) (v ∷ ds) (asked 0) r (carried_by (asked 0) r)
+  alone_keeps : (v : UnitView) → Executes c n cdb.items bytes.items (v, r) → KeepsVolumes (c ∷ ds) (v ∷ ds) (asked 0) r (carried_by (profile_of c.device) (asked 0) r)
   alone_keeps v step =
       let same = (executes_stays c v n cdb.items bytes.items r step).device in
       let does = executed c v n cdb.items bytes.items r step in
-      by_carries c v ds o (asked 0) r (carried_by (asked 0) r) (same.kind ∙ o.kind) same.drives
-      (subst (λ (x : Kind). CarriesBy c.device v.device (cond (is_good r.status) (way_of (decoded_command x cdb.items bytes.items)) None)) o.kind
-      (changer_does c.device v.device (decoded_command (kind_of c.device) cdb.items bytes.items) bytes.items r.status r.sense o.kind does))
+      by_carries c v ds o (asked 0) r (carried_by (profile_of c.device) (asked 0) r) (same.kind ∙ o.kind) same.drives
+      (subst (λ (x : Kind). CarriesBy c.device v.device (cond (is_good r.status) (way_of (decoded_command (commands (profile_of c.device) x) cdb.items bytes.items)) None)) o.kind
+      (changer_does c.device v.device (decoded_command (commands_of c.device) cdb.items bytes.items) bytes.items r.status r.sense o.kind does))
 
   -- at a drive
   own_keeps : (k : ℕ) (d x : UnitView) → slice_get ds k ≡ Some d → Executes d n cdb.items bytes.items (x, r) → KeepsVolumes (c ∷ ds) (c ∷ slice_set ds k x) (asked (suc k)) r None
   own_keeps k d x there step =
-      let drive = (drive_of c ds k d o there).kind in
+      let at = drive_of c ds k d o there in
+      let drive = at.kind in
+      let own : commands_of d.device ≡ commands (profile_of c.device) kind.Drive =
+      ap (λ (p : Profile). commands p (kind_of d.device)) at.profile ∙ ap (λ (y : Kind). commands (profile_of c.device) y) drive in
       drive_keeps c ds k d x (asked (suc k)) r there refl
-      (subst (λ (y : Kind). SameAt (StaysSame true (is_good r.status && writes (decoded_command y cdb.items bytes.items))) (volume_at d.device 0) (volume_at x.device 0)) drive
-      (drive_does d.device x.device (decoded_command (kind_of d.device) cdb.items bytes.items) bytes.items r.status r.sense drive (executed d x n cdb.items bytes.items r step)))
+      (subst (λ (y : CommandSet). SameAt (StaysSame true (is_good r.status && writes (decoded_command y cdb.items bytes.items))) (volume_at d.device 0) (volume_at x.device 0)) own
+      (drive_does d.device x.device (decoded_command (commands_of d.device) cdb.items bytes.items) bytes.items r.status r.sense drive (executed d x n cdb.items bytes.items r step)))
 
   -- at the changer with drives: alone, with nothing carried, or with a volume carried
-  carried_way : (l : ℕ) (more : List ℕ) (names : named (drives_of c.device) cdb.items ≡ l ∷ more) → r.status ≡ Good → carried_by (asked 0) r ≡ Some (way (has_route c.device cdb.items l more names).route)
+  carried_way : (l : ℕ) (more : List ℕ) (names : named (commands_of c.device) (drives_of c.device) cdb.items ≡ l ∷ more) → r.status ≡ Good → carried_by (profile_of c.device) (asked 0) r ≡ Some (way (has_route c.device cdb.items l more names).route)
   carried_way l more names good =
       let q = has_route c.device cdb.items l more names in
-      ap (λ (s : Status). cond (is_good s) (way_of (decoded_command kind.Changer cdb.items bytes.items)) None) good
-      ∙ ap (λ (x : Kind). way_of (decoded_command x cdb.items bytes.items)) (sym q.changer)
+      ap (λ (s : Status). cond (is_good s) (way_of (decoded_command (commands (profile_of c.device) kind.Changer) cdb.items bytes.items)) None) good
+      ∙ ap (λ (x : Kind). way_of (decoded_command (commands (profile_of c.device) x) cdb.items bytes.items)) (sym q.changer)
       ∙ ap way_of (decodes_move c.device cdb.items bytes.items l more q)
 
-  halted_keeps : (v : UnitView) → v.device ≡ c.device → r.status ≡ CheckCondition → KeepsVolumes (c ∷ ds) (v ∷ ds) (asked 0) r (carried_by (asked 0) r)
+  halted_keeps : (v : UnitView) → v.device ≡ c.device → r.status ≡ CheckCondition → KeepsVolumes (c ∷ ds) (v ∷ ds) (asked 0) r (carried_by (profile_of c.device) (asked 0) r)
   halted_keeps v same bad =
-      subst (KeepsVolumes (c ∷ ds) (v ∷ ds) (asked 0) r) (sym (ap (λ (s : Status). cond (is_good s) (way_of (decoded_command kind.Changer cdb.items bytes.items)) None) bad))
-      (λ address. equal_stays (is_to (asked 0) address) (is_written (asked 0) r) (volume_in (c ∷ ds) address) (volume_in (v ∷ ds) address) (changer_same c v ds address same))
+      subst (KeepsVolumes (c ∷ ds) (v ∷ ds) (asked 0) r) (sym (ap (λ (s : Status). cond (is_good s) (way_of (decoded_command (commands (profile_of c.device) kind.Changer) cdb.items bytes.items)) None) bad))
+      (λ address. equal_stays (is_to (asked 0) address) (is_written (profile_of c.device) (asked 0) r) (volume_in (c ∷ ds) address) (volume_in (v ∷ ds) address) (changer_same c v ds address same))
 
-  move_keeps : {A : Type 0} (v : UnitView) (drives after : A) (carried : Result (DeviceView × A) Condition) (set : A → List UnitView) (l : ℕ) (more : List ℕ) (names : named (drives_of c.device) cdb.items ≡ l ∷ more) → set drives ≡ ds
+  move_keeps : {A : Type 0} (v : UnitView) (drives after : A) (carried : Result (DeviceView × A) Condition) (set : A → List UnitView) (l : ℕ) (more : List ℕ) (names : named (commands_of c.device) (drives_of c.device) cdb.items ≡ l ∷ more) → set drives ≡ ds
       → (carried ≡ Ok (v.device, after) → IsCarried (c ∷ ds) (v ∷ set after) (way (has_route c.device cdb.items l more names).route))
-      → Became c v n cdb.items bytes.items r drives after carried → KeepsVolumes (c ∷ ds) (v ∷ set after) (asked 0) r (carried_by (asked 0) r)
+      → Became c v n cdb.items bytes.items r drives after carried → KeepsVolumes (c ∷ ds) (v ∷ set after) (asked 0) r (carried_by (profile_of c.device) (asked 0) r)
   move_keeps v drives after carried set l more names same carries (inl alone) =
-      subst (λ (xs : List UnitView). KeepsVolumes (c ∷ ds) (v ∷ xs) (asked 0) r (carried_by (asked 0) r)) (sym (ap set alone.1 ∙ same)) (alone_keeps v alone.0)
+      subst (λ (xs : List UnitView). KeepsVolumes (c ∷ ds) (v ∷ xs) (asked 0) r (carried_by (profile_of c.device) (asked 0) r)) (sym (ap set alone.1 ∙ same)) (alone_keeps v alone.0)
   move_keeps v drives after carried set l more names same carries (inr (inl halted)) =
-      subst (λ (xs : List UnitView). KeepsVolumes (c ∷ ds) (v ∷ xs) (asked 0) r (carried_by (asked 0) r)) (sym (ap set halted.drives_stay ∙ same))
+      subst (λ (xs : List UnitView). KeepsVolumes (c ∷ ds) (v ∷ xs) (asked 0) r (carried_by (profile_of c.device) (asked 0) r)) (sym (ap set halted.drives_stay ∙ same))
       (halted_keeps v (ap (λ (x : UnitView × Reply). x.0.device) halted.ends.unit) (ap (λ (x : UnitView × Reply). x.1.status) halted.ends.unit))
   move_keeps {A} v drives after carried set l more names same carries (inr (inr moved)) =
       let device : v.device ≡ moved.device = ap (λ (x : UnitView × Reply). x.0.device) moved.ends.unit in
       subst (KeepsVolumes (c ∷ ds) (v ∷ set after) (asked 0) r) (sym (carried_way l more names (ap (λ (x : UnitView × Reply). x.1.status) moved.ends.unit)))
       (carries (moved.is ∙ ap (λ (x : DeviceView). carried_to x after) (sym device)))
 
-  one_keeps : (k : ℕ) (d v e : UnitView) → slice_get ds k ≡ Some d → named (drives_of c.device) cdb.items ≡ suc k ∷ [] → MovesOne c d n cdb.items bytes.items ((v, r), e)
-      → KeepsVolumes (c ∷ ds) (v ∷ slice_set ds k e) (asked 0) r (carried_by (asked 0) r)
+  one_keeps : (k : ℕ) (d v e : UnitView) → slice_get ds k ≡ Some d → named (commands_of c.device) (drives_of c.device) cdb.items ≡ suc k ∷ [] → MovesOne c d n cdb.items bytes.items ((v, r), e)
+      → KeepsVolumes (c ∷ ds) (v ∷ slice_set ds k e) (asked 0) r (carried_by (profile_of c.device) (asked 0) r)
   one_keeps k d v e there names step =
       move_keeps v d e (carried_one c.device d (route_at c cdb.items)) (λ (x : UnitView). slice_set ds k x) (suc k) [] names (set-same ds k d there) (λ h. one_carries c v ds o cdb.items k d e names there h)
       (one_became c d v e n cdb.items bytes.items r (suc k) [] names step)
 
-  two_keep : (i j : ℕ) (more : List ℕ) (ds' es : TwoDrives) (v : UnitView) → slice_get ds i ≡ Some ds'.low → slice_get ds j ≡ Some ds'.high → named (drives_of c.device) cdb.items ≡ suc i ∷ suc j ∷ more
-      → MovesTwo c ds' n cdb.items bytes.items ((v, r), es) → KeepsVolumes (c ∷ ds) (v ∷ slice_set (slice_set ds i es.low) j es.high) (asked 0) r (carried_by (asked 0) r)
+  two_keep : (i j : ℕ) (more : List ℕ) (ds' es : TwoDrives) (v : UnitView) → slice_get ds i ≡ Some ds'.low → slice_get ds j ≡ Some ds'.high → named (commands_of c.device) (drives_of c.device) cdb.items ≡ suc i ∷ suc j ∷ more
+      → MovesTwo c ds' n cdb.items bytes.items ((v, r), es) → KeepsVolumes (c ∷ ds) (v ∷ slice_set (slice_set ds i es.low) j es.high) (asked 0) r (carried_by (profile_of c.device) (asked 0) r)
   two_keep i j more ds' es v low high names step =
       move_keeps v ds' es (carried_two c.device ds' (route_at c cdb.items)) (λ (x : TwoDrives). slice_set (slice_set ds i x.low) j x.high) (suc i) (suc j ∷ more) names
       (ap (λ (xs : List UnitView). slice_set xs j ds'.high) (set-same ds i ds'.low low) ∙ set-same ds j ds'.high high) (λ h. two_carry c v ds o cdb.items i j more ds' es names low high h)
       (two_became c v ds' es n cdb.items bytes.items r (suc i) (suc j ∷ more) names step)
 
-  absent_keeps : (at : ℕ) → slice_get (c ∷ ds) at ≡ None → KeepsVolumes (c ∷ ds) (c ∷ ds) (asked at) r (carried_by (asked at) r)
+  absent_keeps : (at : ℕ) → slice_get (c ∷ ds) at ≡ None → KeepsVolumes (c ∷ ds) (c ∷ ds) (asked at) r (carried_by (profile_of c.device) (asked at) r)
   absent_keeps zero gone = absurd cc
-  absent_keeps (suc k) gone = λ address. stays (is_to (asked (suc k)) address) (is_written (asked (suc k)) r) (volume_in (c ∷ ds) address)
+  absent_keeps (suc k) gone = λ address. stays (is_to (asked (suc k)) address) (is_written (profile_of c.device) (asked (suc k)) r) (volume_in (c ∷ ds) address)
 
-  commands_keep : (ms : List UnitView) (at : ℕ) → Goes c ds n cdb.items bytes.items ms r at → KeepsVolumes (c ∷ ds) ms (asked at) r (carried_by (asked at) r)
-  commands_keep ms at (inl it) = subst (λ (xs : List UnitView). KeepsVolumes (c ∷ ds) xs (asked at) r (carried_by (asked at) r)) (sym it.units) (absent_keeps at it.gone)
+  commands_keep : (ms : List UnitView) (at : ℕ) → Goes c ds n cdb.items bytes.items ms r at → KeepsVolumes (c ∷ ds) ms (asked at) r (carried_by (profile_of c.device) (asked at) r)
+  commands_keep ms at (inl it) = subst (λ (xs : List UnitView). KeepsVolumes (c ∷ ds) xs (asked at) r (carried_by (profile_of c.device) (asked at) r)) (sym it.units) (absent_keeps at it.gone)
   commands_keep ms at (inr (inl it)) =
-      subst (λ i. KeepsVolumes (c ∷ ds) ms (asked i) r (carried_by (asked i) r)) (sym it.lun)
+      subst (λ i. KeepsVolumes (c ∷ ds) ms (asked i) r (carried_by (profile_of c.device) (asked i) r)) (sym it.lun)
       (subst (λ (xs : List UnitView). KeepsVolumes (c ∷ ds) xs (asked (suc it.place)) r None) (sym it.step.units) (own_keeps it.place it.drive it.step.unit it.there it.step.step))
   commands_keep ms at (inr (inr (inl it))) =
-      subst (λ i. KeepsVolumes (c ∷ ds) ms (asked i) r (carried_by (asked i) r)) (sym it.lun)
-      (subst (λ (xs : List UnitView). KeepsVolumes (c ∷ ds) xs (asked 0) r (carried_by (asked 0) r)) (sym it.step.units) (alone_keeps it.step.unit it.step.step))
+      subst (λ i. KeepsVolumes (c ∷ ds) ms (asked i) r (carried_by (profile_of c.device) (asked i) r)) (sym it.lun)
+      (subst (λ (xs : List UnitView). KeepsVolumes (c ∷ ds) xs (asked 0) r (carried_by (profile_of c.device) (asked 0) r)) (sym it.step.units) (alone_keeps it.step.unit it.step.step))
   commands_keep ms at (inr (inr (inr (inl it)))) =
-      subst (λ i. KeepsVolumes (c ∷ ds) ms (asked i) r (carried_by (asked i) r)) (sym it.lun)
-      (subst (λ (xs : List UnitView). KeepsVolumes (c ∷ ds) xs (asked 0) r (carried_by (asked 0) r)) (sym it.step.units) (one_keeps it.place it.drive it.step.changer it.step.other it.there it.names it.step.step))
+      subst (λ i. KeepsVolumes (c ∷ ds) ms (asked i) r (carried_by (profile_of c.device) (asked i) r)) (sym it.lun)
+      (subst (λ (xs : List UnitView). KeepsVolumes (c ∷ ds) xs (asked 0) r (carried_by (profile_of c.device) (asked 0) r)) (sym it.step.units) (one_keeps it.place it.drive it.step.changer it.step.other it.there it.names it.step.step))
   commands_keep ms at (inr (inr (inr (inr it)))) =
-      subst (λ i. KeepsVolumes (c ∷ ds) ms (asked i) r (carried_by (asked i) r)) (sym it.lun)
-      (subst (λ (xs : List UnitView). KeepsVolumes (c ∷ ds) xs (asked 0) r (carried_by (asked 0) r)) (sym it.step.units)
+      subst (λ i. KeepsVolumes (c ∷ ds) ms (asked i) r (carried_by (profile_of c.device) (asked i) r)) (sym it.lun)
+      (subst (λ (xs : List UnitView). KeepsVolumes (c ∷ ds) xs (asked 0) r (carried_by (profile_of c.device) (asked 0) r)) (sym it.step.units)
       (two_keep it.low it.high it.more it.drives it.step.drives it.step.changer it.low_there it.high_there it.names it.step.step))
 
 -- A LOSS AND A RESET
@@ -217,16 +223,16 @@ drive_reset device after (inl same) = equal_stays true false (volume_at device 0
 drive_reset device after (inr was) = subst (λ (x : DeviceView). SameAt (StaysSame true false) (volume_at device 0) (volume_at x 0)) (sym was) (resets_keep_volumes device 0)
 
 -- an event that isn't a command
-module _ (c : UnitView) (ds : List UnitView) (o : IsOrdered c ds) (e : Event) (r : Reply) (unwritten : is_written e r ≡ false) where
+module _ (c : UnitView) (ds : List UnitView) (o : IsOrdered c ds) (e : Event) (r : Reply) (unwritten : is_written (profile_of c.device) e r ≡ false) where
   same_keeps : (ms : List UnitView) → ms ≡ c ∷ ds → KeepsVolumes (c ∷ ds) ms e r None
-  same_keeps ms is = λ address. equal_stays (is_to e address) (is_written e r) (volume_in (c ∷ ds) address) (volume_in ms address) (ap (λ (xs : List UnitView). volume_in xs address) is)
+  same_keeps ms is = λ address. equal_stays (is_to e address) (is_written (profile_of c.device) e r) (volume_in (c ∷ ds) address) (volume_in ms address) (ap (λ (xs : List UnitView). volume_in xs address) is)
 
   unit_keeps : (at : ℕ) (w x : UnitView) → lun_of e ≡ at → slice_get (c ∷ ds) at ≡ Some w → (kind_of w.device ≡ kind.Changer → x.device ≡ w.device) → SameAt (StaysSame true false) (volume_at w.device 0) (volume_at x.device 0)
       → KeepsVolumes (c ∷ ds) (slice_set (c ∷ ds) at x) e r None
   unit_keeps zero w x lun there changer drive =
       let is : c ≡ w = cc in
       let same : x.device ≡ c.device = changer (ap (λ (u : UnitView). kind_of u.device) (sym is) ∙ o.kind) ∙ ap (λ (u : UnitView). u.device) (sym is) in
-      λ address. equal_stays (is_to e address) (is_written e r) (volume_in (c ∷ ds) address) (volume_in (x ∷ ds) address) (changer_same c x ds address same)
+      λ address. equal_stays (is_to e address) (is_written (profile_of c.device) e r) (volume_in (c ∷ ds) address) (volume_in (x ∷ ds) address) (changer_same c x ds address same)
   unit_keeps (suc k) w x lun there changer drive =
       drive_keeps c ds k w x e r there lun (subst (λ b. SameAt (StaysSame true b) (volume_at w.device 0) (volume_at x.device 0)) (sym unwritten) drive)
 
@@ -245,7 +251,7 @@ resets_keep c ds ms at r (Some w) o there step =
     (unit_keeps c ds o (event.Reset at) r refl at w step.unit refl there (λ k. changer_reset w.device step.unit.device k was) (drive_reset w.device step.unit.device was))
 
 -- THE STEPS
-pub step_keeps_volumes : (us ms : List UnitView) (e : Event) (r : Reply) → fault_of us ≡ None → Steps us e (ms, r) → KeepsVolumes us ms e r (carried_by e r)
+pub step_keeps_volumes : (us ms : List UnitView) (e : Event) (r : Reply) → fault_of us ≡ None → Steps us e (ms, r) → KeepsVolumes us ms e r (carried_by (profile_in us) e r)
 step_keeps_volumes [] ms e r h step = absurd cc
 step_keeps_volumes (c ∷ ds) ms (event.Command n at cdb bytes) r h step =
     let o = ordered c ds h in

@@ -18,7 +18,7 @@ use Rattle.tape_medium.specs.Object.{Object, Block}
 use Rattle.tape_medium.specs.declared.volume.VolumeTag.{VolumeTag}
 use Rattle.unit_attention.specs.declared.kind.Kind.{Kind}
 use Rattle.audit_log.specs.declared.record.Record.{Record}
-use Rattle.device_server.specs.View.{DeviceView, Drive, Changer, kind_of}
+use Rattle.device_server.specs.View.{DeviceView, Drive, Changer, commands_of, profile_of}
 use Rattle.judgement.specs.Commands.{act_of_command, decoded_command}
 use Rattle.judgement.specs.Readings.{verdict_of}
 use Rattle.judgement.specs.UnitState.{has_room}
@@ -53,38 +53,38 @@ alone mid now cdb w = let no = w.changer in cc
 
 -- THE FOUR COMMANDS
 comes_a : (tag : VolumeTag) → ComesToTheCheck (at_first tag) a write block writes
-unfolding commands.command_of
+unfolding commands.command_of profile_of
 comes_a tag = record { decodes = refl; ready = refl }
 
 comes_b : (tag : VolumeTag) → ComesToTheCheck (at_1 tag) b write block writes
-unfolding commands.command_of
+unfolding commands.command_of profile_of
 comes_b tag = record { decodes = refl; ready = refl }
 
 comes_key : (tag : VolumeTag) → ComesToTheCheck (at_2 tag) b (reserve_out 0 0) (parameters 5 2) registers
-unfolding commands.command_of
+unfolding commands.command_of profile_of
 comes_key tag = record { decodes = refl; ready = refl }
 
 comes_read : (tag : VolumeTag) → ComesToTheCheck (at_3 tag) b read_reservation [] reads
-unfolding commands.command_of
+unfolding commands.command_of profile_of
 comes_read tag = record { decodes = refl; ready = refl }
 
 abbrev pub Pair : Type 0
 Pair = UnitView × Reply
 
 answers_1 : (tag : VolumeTag) → ◌≡◌ {A = Pair} (at_1 tag, good_with 1) (answered (at_first tag) a write block)
-unfolding commands.command_of keys_after
+unfolding commands.command_of profile_of keys_after
 answers_1 tag = refl
 
 answers_2 : (tag : VolumeTag) → ◌≡◌ {A = Pair} (at_2 tag, conflict_with 2) (answered (at_1 tag) b write block)
-unfolding commands.command_of keys_after
+unfolding commands.command_of profile_of keys_after
 answers_2 tag = refl
 
 answers_3 : (tag : VolumeTag) → ◌≡◌ {A = Pair} (at_3 tag, conflict_with 3) (answered (at_2 tag) b (reserve_out 0 0) (parameters 5 2))
-unfolding commands.command_of keys_after
+unfolding commands.command_of profile_of keys_after
 answers_3 tag = refl
 
 answers_4 : (tag : VolumeTag) → ◌≡◌ {A = Pair} (at_4 tag, shown_with 1 1) (answered (at_3 tag) b read_reservation [])
-unfolding commands.command_of keys_after
+unfolding commands.command_of profile_of keys_after
 answers_4 tag = refl
 
 -- a command that is answered so is made so, and served
@@ -233,8 +233,8 @@ not_decided tag = record {
 }
 
 -- the first command of A is told of the power on, and doesn't come to the check
-decodes_ready : (tag : VolumeTag) → decoded_command (kind_of (drive tag).device) test_unit_ready [] ≡ Ok (command.Device request.TestUnitReady)
-unfolding commands.command_of
+decodes_ready : (tag : VolumeTag) → decoded_command (commands_of (drive tag).device) test_unit_ready [] ≡ Ok (command.Device request.TestUnitReady)
+unfolding commands.command_of profile_of
 decodes_ready tag = refl
 
 not_there : (tag : VolumeTag) → ¬ IsBarred power_on (drive tag) a test_unit_ready []

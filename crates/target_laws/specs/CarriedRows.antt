@@ -47,7 +47,7 @@ abbrev pub move_cell : Cell
 move_cell = record { class = class.MoveMedium; res_type = restype.None; role = Other }
 
 abbrev pub entry : Option Nexus → Act → Option Cell → Record
-entry n asked at = record { number = 1; nexus = n; act = asked; stage = stage.Device; cell = at; rule = None; status = Good; sense = None; mode_changed = false }
+entry n asked at = record { number = 1; nexus = n; act = asked; stage = stage.Device; cell = at; rule = None; status = Good; sense = None; told = None }
 
 -- the changer with a device and the record of A's move, and the drive with a volume and the record of its coming, of which A and B will be told
 abbrev pub changer_with : DeviceView → UnitView

@@ -14,7 +14,7 @@ use Rattle.pr_core.specs.State.{State, cell}
 use Rattle.pr_core.specs.declared.verdict.Verdict.TheVariants.{Allowed}
 use Rattle.tape_medium.specs.declared.volume.Volume.{Volume}
 use Rattle.tape_medium.specs.declared.volume.VolumeTag.{VolumeTag}
-use Rattle.device_server.specs.View.{DeviceView, kind_of, drives_of, held_in, taken, put}
+use Rattle.device_server.specs.View.{DeviceView, kind_of, commands_of, drives_of, held_in, taken, put}
 use Rattle.device_server.specs.Volumes.{volume_at}
 use Rattle.judgement.specs.declared.command.Command.{Command}
 use Rattle.judgement.specs.declared.command.Command.TheVariants.{ReserveIn}
@@ -43,7 +43,7 @@ use Rattle.target_core.specs.Laws.{accepted_in}
 -- the registrations, the reservation and the generation of a unit by its history: what stood at first, and then the PERSISTENT RESERVE OUT
 -- commands to it that ended GOOD, oldest first
 abbrev pub by_history : UnitView → (lun : ℕ) → List Event → List Reply → State
-by_history u lun es rs = after_history u.state.reservations (accepted_in (kind_of u.device) lun es rs)
+by_history u lun es rs = after_history u.state.reservations (accepted_in (commands_of u.device) lun es rs)
 
 -- the record of a refused command: the cell of the permission table that it stands in by the reservations h, and the rule on keys if one was broken
 abbrev pub refusal_record : (h : State) → UnitView → Nexus → Command → Record
@@ -137,8 +137,8 @@ AreThere us (lun ∷ luns) = IsSome (slice_get us lun) × AreThere us luns
 
 pub record IsWithDrives (mid : List UnitView) (lun : ℕ) (now : UnitView) (cdb : List ℕ) : Type 0 where
   pub changer : lun ≡ 0
-  pub some : named (drives_of now.device) cdb ≢ []
-  pub there : AreThere mid (named (drives_of now.device) cdb)
+  pub some : named (commands_of now.device) (drives_of now.device) cdb ≢ []
+  pub there : AreThere mid (named (commands_of now.device) (drives_of now.device) cdb)
 
 -- the unit answers alone; such a move it doesn't leave to the drives then
 pub record IsAlone (mid : List UnitView) (lun : ℕ) (now left : UnitView) (n : Nexus) (cdb bytes : List ℕ) (command : Command) (r : Reply) : Type 0 where
@@ -224,7 +224,7 @@ pub record IsServed (h : State) (mid next : List UnitView) (lun : ℕ) (n : Nexu
   -- its registrations, reservation and generation are what the history left
   pub history : now.state.reservations ≡ h
   -- and then what the history leaves with this command, if it is accepted
-  pub leaves : left.state.reservations ≡ after_history h (accepted_by (kind_of now.device) n cdb bytes r.status)
+  pub leaves : left.state.reservations ≡ after_history h (accepted_by (commands_of now.device) n cdb bytes r.status)
   -- every other unit stays as it was, but for a drive that gives or takes the volume of a GOOD move
   pub others : (k : ℕ) → k ≢ lun → (slice_get next k ≡ slice_get mid k) ⊎ IsMovedAt mid next lun now left cdb r k
   -- it is answered BUSY, or by the history

@@ -61,7 +61,7 @@ entry_allowed = record {
   rule = None;
   status = Good;
   sense = None;
-  mode_changed = false;
+  told = None;
 }
 
 abbrev pub entry_denied : Role → Record
@@ -74,7 +74,7 @@ entry_denied role = record {
   rule = None;
   status = ReservationConflict;
   sense = None;
-  mode_changed = false;
+  told = None;
 }
 
 abbrev pub entry_broken : Record
@@ -87,7 +87,7 @@ entry_broken = record {
   rule = Some K1;
   status = ReservationConflict;
   sense = None;
-  mode_changed = false;
+  told = None;
 }
 
 abbrev pub entry_read : Record
@@ -100,7 +100,7 @@ entry_read = record {
   rule = None;
   status = Good;
   sense = None;
-  mode_changed = false;
+  told = None;
 }
 
 -- the drive at first, and behind each of the four commands

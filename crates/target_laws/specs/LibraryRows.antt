@@ -1,6 +1,7 @@
 -- Worked rows: a changer with a drive at 0100h and storage elements 0400h and 0401h, and that drive, LUN 1. A had contact with both. It moves the
 -- volume in 0400h into the drive, is told of that, writes a block, asks for a move out of the empty element, and moves the volume into 0401h.
 use Rattle.std.specs.Prelude.{◌≡◌, ℕ, Bool, true, false, List, [], ◌∷◌, map, take, drop, replicate, IsPermutation, Option, Some, None}
+use Rattle.scsi_cdb.specs.declared.profile.Profile.TheVariants.{Spec}
 use Rattle.scsi_sense.specs.declared.status.Status.TheVariants.{Good, CheckCondition}
 use Rattle.tape_medium.specs.Object.{Block}
 use Rattle.tape_medium.specs.declared.volume.Volume.{Volume}
@@ -93,11 +94,11 @@ pub record PlacesOfATarget : Type 0 where
 
 -- for each event, whether it carried a volume, and whether it wrote
 abbrev pub ways : List Event → List Reply → List (Option Way)
-ways (e ∷ es) (r ∷ rs) = carried_by e r ∷ ways es rs
+ways (e ∷ es) (r ∷ rs) = carried_by Spec e r ∷ ways es rs
 ways es rs = []
 
 abbrev pub writings : List Event → List Reply → List Bool
-writings (e ∷ es) (r ∷ rs) = is_written e r ∷ writings es rs
+writings (e ∷ es) (r ∷ rs) = is_written Spec e r ∷ writings es rs
 writings es rs = []
 
 pub record IsMovedRun (es : List Event) : Type 0 where
@@ -126,8 +127,8 @@ MovedRun = (es : List Event) → AllSend es sent → IsMovedRun es
 pub record OtherEvents : Type 0 where
   pub to_its_drive : is_to (event.Reset 1) 0x100 ≡ true
   pub to_another : is_to (event.Reset 2) 0x100 ≡ false
-  pub reset : is_written (event.Reset 1) (good_with 1) ≡ false
-  pub loss : carried_by (event.Loss a 0) (good_with 1) ≡ None
+  pub reset : is_written Spec (event.Reset 1) (good_with 1) ≡ false
+  pub loss : carried_by Spec (event.Loss a 0) (good_with 1) ≡ None
 
 -- a volume that is gone, one that stands twice, one that is another, and one that was written on with no cause, is not kept
 pub record NotKept : Type 0 where

@@ -5,6 +5,8 @@ use Rattle.std.specs.Prelude.{◌≡◌, ◌⊎◌, ℕ, zero, suc, true, false,
 use Rattle.scsi_cdb.specs.declared.service_action.OutServiceAction.TheVariants as out
 use Rattle.scsi_cdb.specs.declared.classes.Class.TheVariants as class
 use Rattle.scsi_cdb.specs.declared.kind.Kind.TheVariants as kind
+use Rattle.scsi_cdb.specs.declared.profile.Profile.TheVariants.{Spec}
+use Rattle.scsi_cdb.specs.Kinds.{commands}
 use Rattle.scsi_cdb.specs.declared.request.Request.TheVariants as request
 use Rattle.scsi_nexus.specs.declared.nexus.Nexus.{Nexus}
 use Rattle.scsi_sense.specs.declared.status.Status.TheVariants.{Good, CheckCondition, Busy, ReservationConflict}
@@ -126,10 +128,10 @@ pub record IsWorked (tag : VolumeTag) (es : List Event) : Type 0 where
   pub before_register : by_history (drive tag) 1 (take 6 es) (take 6 replies) ≡ held
   pub before_read : by_history (drive tag) 1 (take 7 es) (take 7 replies) ≡ held
   -- they are denied, allowed, and barred by the first rule
-  pub decodes_write : decoded_command kind.Drive write (7 ∷ 8 ∷ []) ≡ Ok (command.Device (request.Write false 2))
+  pub decodes_write : decoded_command (commands Spec kind.Drive) write (7 ∷ 8 ∷ []) ≡ Ok (command.Device (request.Write false 2))
   pub denied : verdict_of held b (command.Device (request.Write false 2)) ≡ Denied (record { class = class.Write; res_type = Ea; role = Other })
   pub allowed : verdict_of held a (command.Device (request.Write false 2)) ≡ Allowed
-  pub decodes_register : decoded_command kind.Drive (reserve_out 0 0) (parameters 5 2) ≡ Ok (command.ReserveOut wrong_key)
+  pub decodes_register : decoded_command (commands Spec kind.Drive) (reserve_out 0 0) (parameters 5 2) ≡ Ok (command.ReserveOut wrong_key)
   pub broken : verdict_of held b (command.ReserveOut wrong_key) ≡ Rule K1
   -- as the records say: the stage, the cell, the rule
   pub stages : map (λ (e : Record). e.stage) last.records

@@ -2,7 +2,9 @@
 -- place is an element of the changer, by its address (SMC-3, "Element addressing"); a data transfer element is the bay of its drive.
 use Rattle.std.specs.Prelude.{◌≡◌, ◌≢◌, ◌==◌, ◌&&◌, ◌+◌, ℕ, zero, Bool, true, false, List, [], ◌∷◌, ◌++◌, length, slice_get, Option, Some, None, Result, Ok, if◌then◌else◌}
 use Rattle.scsi_cdb.specs.declared.kind.Kind.TheVariants as kind
+use Rattle.scsi_cdb.specs.declared.profile.Profile.{Profile}
 use Rattle.scsi_cdb.specs.declared.request.Request.TheVariants.{MoveMedium}
+use Rattle.scsi_cdb.specs.Kinds.{commands}
 use Rattle.scsi_sense.specs.declared.condition.Condition.{Condition}
 use Rattle.tape_medium.specs.declared.volume.Volume.{Volume}
 use Rattle.device_server.specs.Volumes.{volume_at, SameCartridge, SameVolume, SameAt, is_write}
@@ -15,7 +17,7 @@ use Rattle.logical_unit.specs.Route.{drive_at}
 use Rattle.logical_unit.specs.UnitView.{UnitView}
 use Rattle.target_core.specs.declared.event.Event.{Event}
 use Rattle.target_core.specs.declared.event.Event.TheVariants as event
-use Rattle.target_core.specs.Faults.{fault_of}
+use Rattle.target_core.specs.Faults.{fault_of, profile_in}
 use Rattle.target_core.specs.Run.{Steps, Runs}
 
 -- THE PLACES
@@ -41,10 +43,10 @@ abbrev pub way_of : Result Command Condition → Option Way
 way_of (Ok (Device (MoveMedium transport source destination invert))) = Some (record { source = source; destination = destination })
 way_of command = None
 
--- the way that an event carried a volume: that of a MOVE MEDIUM to the changer that ended GOOD
-abbrev pub carried_by : Event → Reply → Option Way
-carried_by (event.Command n zero cdb bytes) r = if is_good r.status then way_of (decoded_command kind.Changer cdb.items bytes.items) else None
-carried_by e r = None
+-- the way that an event carried a volume in a target of a profile: that of a MOVE MEDIUM to the changer that ended GOOD
+abbrev pub carried_by : Profile → Event → Reply → Option Way
+carried_by profile (event.Command n zero cdb bytes) r = if is_good r.status then way_of (decoded_command (commands profile kind.Changer) cdb.items bytes.items) else None
+carried_by profile e r = None
 
 abbrev pub lun_of : Event → ℕ
 lun_of (event.Command n lun cdb bytes) = lun
@@ -59,10 +61,10 @@ abbrev pub writes : Result Command Condition → Bool
 writes (Ok (Device request)) = is_write request
 writes command = false
 
--- whether an event writes on the tape of its drive: a WRITE, WRITE FILEMARKS or ERASE that ended GOOD
-abbrev pub is_written : Event → Reply → Bool
-is_written (event.Command n lun cdb bytes) r = is_good r.status && writes (decoded_command kind.Drive cdb.items bytes.items)
-is_written e r = false
+-- whether an event writes on the tape of its drive in a target of a profile: a WRITE, WRITE FILEMARKS or ERASE that ended GOOD
+abbrev pub is_written : Profile → Event → Reply → Bool
+is_written profile (event.Command n lun cdb bytes) r = is_good r.status && writes (decoded_command (commands profile kind.Drive) cdb.items bytes.items)
+is_written profile e r = false
 
 -- what stays the same of a volume: all of it, unless the event is to its drive; then all but where its tape stands, and but what is on it
 -- where that is written
@@ -84,11 +86,11 @@ pub record IsCarried (before after : List UnitView) (way : Way) : Type 0 where
 -- one volume was carried, or at every element there is the same volume, or none, as before
 abbrev pub KeepsVolumes : (before after : List UnitView) → Event → Reply → Option Way → Type 0
 KeepsVolumes before after e r (Some way) = IsCarried before after way
-KeepsVolumes before after e r None = (address : ℕ) → SameAt (StaysSame (is_to e address) (is_written e r)) (volume_in before address) (volume_in after address)
+KeepsVolumes before after e r None = (address : ℕ) → SameAt (StaysSame (is_to e address) (is_written (profile_in before) e r)) (volume_in before address) (volume_in after address)
 
 -- so it is of each event of each run of a target, from the units before it to those after it
 abbrev pub VolumesStay : Type 0
 VolumesStay =
     (us vs : List UnitView) (before after : List Event) (rs qs : List Reply) (e : Event) (r : Reply) → fault_of us ≡ None → length rs ≡ length before
     → Runs us (before ++ e ∷ after) (rs ++ r ∷ qs) vs
-    → (mid : List UnitView) × (next : List UnitView) × Runs us before rs mid × Steps mid e (next, r) × Runs next after qs vs × KeepsVolumes mid next e r (carried_by e r)
+    → (mid : List UnitView) × (next : List UnitView) × Runs us before rs mid × Steps mid e (next, r) × Runs next after qs vs × KeepsVolumes mid next e r (carried_by (profile_in mid) e r)

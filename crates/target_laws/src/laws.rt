@@ -65,6 +65,7 @@ pub fn worked_carrying()
 {}
 
 /// Units that make a target, and why others don't.
+#[tactic(auto, unfolding(device_server::specs::View::profile_of))]
 pub fn worked_units()
     ensures units { UnitsOfATarget }
     ensures marks { (tag : VolumeTag) → MarksOfATarget tag }

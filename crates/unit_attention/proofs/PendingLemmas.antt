@@ -3,7 +3,7 @@ use Rattle.std.proofs.Common.{◌≡◌, ℕ, ◌+◌, ◌<◌, ◌≤◌, Bool,
 use Rattle.std.proofs.lemmas.Map.Views.{exact_unsigned_eq}
 use Rattle.std.proofs.lemmas.Grind.{common_steps}
 use Rattle.unit_attention.specs.declared.kind.Kind.{Kind}
-use Rattle.unit_attention.specs.declared.kind.Kind.TheVariants.{PowerOn, BusDeviceReset, NexusLoss, MediumChanged, ModeParametersChanged, ReservationsPreempted, ReservationsReleased, RegistrationsPreempted}
+use Rattle.unit_attention.specs.declared.kind.Kind.TheVariants.{PowerOn, BusDeviceReset, NexusLoss, MediumChanged, ModeParametersChanged, LogParametersChanged, ReservationsPreempted, ReservationsReleased, RegistrationsPreempted}
 use Rattle.unit_attention.specs.Pending.{number_of, same_kind, is_pending, times, IsOnce}
 
 none-or : (a b : Bool) (n : ℕ) → (a || b) ≡ false → (b ≡ false → n ≡ 0) → cond a 1 0 + n ≡ 0
@@ -28,41 +28,44 @@ times-filter p [] k = omega arith
 times-filter p (x ∷ ks) k = fewer_kept k x (p x) (filter p ks) ks (times-filter p ks k)
 
 -- each element is of one of the kinds
-length-kinds : (ks : List Kind) → length ks ≡ times ks PowerOn + times ks BusDeviceReset + times ks NexusLoss + times ks MediumChanged + times ks ModeParametersChanged + times ks ReservationsPreempted + times ks ReservationsReleased + times ks RegistrationsPreempted
+length-kinds : (ks : List Kind) → length ks ≡ times ks PowerOn + times ks BusDeviceReset + times ks NexusLoss + times ks MediumChanged + times ks ModeParametersChanged + times ks LogParametersChanged + times ks ReservationsPreempted + times ks ReservationsReleased + times ks RegistrationsPreempted
 length-kinds [] = refl
 length-kinds (PowerOn ∷ ks) = let h = length-kinds ks in omega arith
 length-kinds (BusDeviceReset ∷ ks) = let h = length-kinds ks in omega arith
 length-kinds (NexusLoss ∷ ks) = let h = length-kinds ks in omega arith
 length-kinds (MediumChanged ∷ ks) = let h = length-kinds ks in omega arith
 length-kinds (ModeParametersChanged ∷ ks) = let h = length-kinds ks in omega arith
+length-kinds (LogParametersChanged ∷ ks) = let h = length-kinds ks in omega arith
 length-kinds (ReservationsPreempted ∷ ks) = let h = length-kinds ks in omega arith
 length-kinds (ReservationsReleased ∷ ks) = let h = length-kinds ks in omega arith
 length-kinds (RegistrationsPreempted ∷ ks) = let h = length-kinds ks in omega arith
 
--- how often each of eight that wait once at most waits, and how many they are
+-- how often each of nine that wait once at most waits, and how many they are
 pub record Count (ks : List Kind) : Type 0 where
-  pub sum : length ks ≡ times ks PowerOn + times ks BusDeviceReset + times ks NexusLoss + times ks MediumChanged + times ks ModeParametersChanged + times ks ReservationsPreempted + times ks ReservationsReleased + times ks RegistrationsPreempted
+  pub sum : length ks ≡ times ks PowerOn + times ks BusDeviceReset + times ks NexusLoss + times ks MediumChanged + times ks ModeParametersChanged + times ks LogParametersChanged + times ks ReservationsPreempted + times ks ReservationsReleased + times ks RegistrationsPreempted
   pub a : times ks PowerOn ≤ 1
   pub b : times ks BusDeviceReset ≤ 1
   pub c : times ks NexusLoss ≤ 1
   pub d : times ks MediumChanged ≤ 1
   pub e : times ks ModeParametersChanged ≤ 1
-  pub f : times ks ReservationsPreempted ≤ 1
-  pub g : times ks ReservationsReleased ≤ 1
-  pub h : times ks RegistrationsPreempted ≤ 1
+  pub f : times ks LogParametersChanged ≤ 1
+  pub g : times ks ReservationsPreempted ≤ 1
+  pub h : times ks ReservationsReleased ≤ 1
+  pub i : times ks RegistrationsPreempted ≤ 1
 
-fewer : (ks : List Kind) (k : Kind) → Count ks → times ks k ≡ 0 → length ks < 8
+fewer : (ks : List Kind) (k : Kind) → Count ks → times ks k ≡ 0 → length ks < 9
 fewer ks PowerOn c none = omega arith
 fewer ks BusDeviceReset c none = omega arith
 fewer ks NexusLoss c none = omega arith
 fewer ks MediumChanged c none = omega arith
 fewer ks ModeParametersChanged c none = omega arith
+fewer ks LogParametersChanged c none = omega arith
 fewer ks ReservationsPreempted c none = omega arith
 fewer ks ReservationsReleased c none = omega arith
 fewer ks RegistrationsPreempted c none = omega arith
 
--- eight that wait once at most are fewer where one of them doesn't wait
-pub room_for : (ks : List Kind) (k : Kind) → IsOnce ks → is_pending ks k ≡ false → length ks < 8
+-- nine that wait once at most are fewer where one of them doesn't wait
+pub room_for : (ks : List Kind) (k : Kind) → IsOnce ks → is_pending ks k ≡ false → length ks < 9
 room_for ks k once absent =
     let c : Count ks = record {
       sum = length-kinds ks;
@@ -71,9 +74,10 @@ room_for ks k once absent =
       c = once NexusLoss;
       d = once MediumChanged;
       e = once ModeParametersChanged;
-      f = once ReservationsPreempted;
-      g = once ReservationsReleased;
-      h = once RegistrationsPreempted;
+      f = once LogParametersChanged;
+      g = once ReservationsPreempted;
+      h = once ReservationsReleased;
+      i = once RegistrationsPreempted;
     } in
     fewer ks k c (times-absent ks k absent)
 

@@ -10,7 +10,7 @@ use Rattle.scsi_nexus.specs.declared.nexus.Nexus.{Nexus}
 use Rattle.scsi_nexus.specs.Order.{nexus_cmp, same_nexus}
 use Rattle.scsi_nexus.proofs.NexusLaws.{nexus_total, eq_by_cmp-nexus, same_nexus-true}
 use Rattle.unit_attention.specs.declared.kind.Kind.{Kind}
-use Rattle.unit_attention.specs.declared.kind.Kind.TheVariants.{PowerOn, BusDeviceReset, NexusLoss, MediumChanged, ModeParametersChanged, ReservationsPreempted, ReservationsReleased, RegistrationsPreempted}
+use Rattle.unit_attention.specs.declared.kind.Kind.TheVariants.{PowerOn, BusDeviceReset, NexusLoss, MediumChanged, ModeParametersChanged, LogParametersChanged, ReservationsPreempted, ReservationsReleased, RegistrationsPreempted}
 use Rattle.unit_attention.specs.Pending.{is_pending, with_kind, without_kind}
 use Rattle.unit_attention.proofs.SlotLemmas.{sorted-change, sorted-contact, sorted-map}
 use Rattle.unit_attention.specs.Queues.{Slots, slot_of, has_slot, with_change, contacted, raised, cleared, lost, was_reset}
@@ -209,6 +209,7 @@ with_kind-twice ks BusDeviceReset = added_twice (is_pending ks BusDeviceReset) k
 with_kind-twice ks NexusLoss = added_twice (is_pending ks NexusLoss) ks NexusLoss refl
 with_kind-twice ks MediumChanged = added_twice (is_pending ks MediumChanged) ks MediumChanged refl
 with_kind-twice ks ModeParametersChanged = added_twice (is_pending ks ModeParametersChanged) ks ModeParametersChanged refl
+with_kind-twice ks LogParametersChanged = added_twice (is_pending ks LogParametersChanged) ks LogParametersChanged refl
 with_kind-twice ks ReservationsPreempted = added_twice (is_pending ks ReservationsPreempted) ks ReservationsPreempted refl
 with_kind-twice ks ReservationsReleased = added_twice (is_pending ks ReservationsReleased) ks ReservationsReleased refl
 with_kind-twice ks RegistrationsPreempted = added_twice (is_pending ks RegistrationsPreempted) ks RegistrationsPreempted refl

@@ -2,7 +2,7 @@
 use Rattle.std.specs.Prelude.{ℕ, ◌+◌, ◌≤◌, Bool, true, false, not, ◌==◌, if◌then◌else◌, List, [], ◌∷◌, ◌++◌, filter, find, Option}
 use Rattle.std.specs.List.{list_any}
 use Rattle.unit_attention.specs.declared.kind.Kind.{Kind}
-use Rattle.unit_attention.specs.declared.kind.Kind.TheVariants.{PowerOn, BusDeviceReset, NexusLoss, MediumChanged, ModeParametersChanged, ReservationsPreempted, ReservationsReleased, RegistrationsPreempted}
+use Rattle.unit_attention.specs.declared.kind.Kind.TheVariants.{PowerOn, BusDeviceReset, NexusLoss, MediumChanged, ModeParametersChanged, LogParametersChanged, ReservationsPreempted, ReservationsReleased, RegistrationsPreempted}
 
 -- the kinds, numbered in their order
 abbrev pub number_of : Kind → ℕ
@@ -11,9 +11,10 @@ number_of BusDeviceReset = 1
 number_of NexusLoss = 2
 number_of MediumChanged = 3
 number_of ModeParametersChanged = 4
-number_of ReservationsPreempted = 5
-number_of ReservationsReleased = 6
-number_of RegistrationsPreempted = 7
+number_of LogParametersChanged = 5
+number_of ReservationsPreempted = 6
+number_of ReservationsReleased = 7
+number_of RegistrationsPreempted = 8
 
 abbrev pub same_kind : Kind → Kind → Bool
 same_kind a b = number_of a == number_of b

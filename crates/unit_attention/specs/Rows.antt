@@ -1,7 +1,7 @@
 -- Worked lists of what waits, and worked slots: A and B at port 1.
 use Rattle.std.specs.Prelude.{◌≡◌, false, [], ◌∷◌, None, Some}
 use Rattle.scsi_nexus.specs.declared.nexus.Nexus.{Nexus}
-use Rattle.unit_attention.specs.declared.kind.Kind.TheVariants.{PowerOn, BusDeviceReset, NexusLoss, MediumChanged, ModeParametersChanged, ReservationsPreempted, ReservationsReleased, RegistrationsPreempted}
+use Rattle.unit_attention.specs.declared.kind.Kind.TheVariants.{PowerOn, BusDeviceReset, NexusLoss, MediumChanged, ModeParametersChanged, LogParametersChanged, ReservationsPreempted, ReservationsReleased, RegistrationsPreempted}
 use Rattle.unit_attention.specs.Pending.{with_kind, without_kind, oldest_reset, oldest_other, is_reset}
 use Rattle.unit_attention.specs.Queues.{Slots, slot_limit, slot_of, has_slot, contacted, raised, cleared, lost, was_reset, first_reset_of, first_other_of}
 
@@ -24,6 +24,8 @@ pub record PendingRows : Type 0 where
   -- the oldest of ASC 29h, and the oldest of the others, whichever came first
   pub resets : oldest_reset (ModeParametersChanged ∷ NexusLoss ∷ MediumChanged ∷ BusDeviceReset ∷ []) ≡ Some NexusLoss
   pub others : oldest_other (NexusLoss ∷ ModeParametersChanged ∷ MediumChanged ∷ []) ≡ Some ModeParametersChanged
+  pub log_is_no_reset : oldest_reset (LogParametersChanged ∷ []) ≡ None
+  pub log_and_mode : with_kind (ModeParametersChanged ∷ []) LogParametersChanged ≡ ModeParametersChanged ∷ LogParametersChanged ∷ []
   pub no_reset : oldest_reset (MediumChanged ∷ RegistrationsPreempted ∷ []) ≡ None
   pub no_other : oldest_other (PowerOn ∷ BusDeviceReset ∷ []) ≡ None
   pub preempted_is_no_reset : is_reset ReservationsPreempted ≡ false

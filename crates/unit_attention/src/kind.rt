@@ -13,6 +13,8 @@ pub enum Kind {
     MediumChanged,
     /// 2Ah/01h MODE PARAMETERS CHANGED.
     ModeParametersChanged,
+    /// 2Ah/02h LOG PARAMETERS CHANGED.
+    LogParametersChanged,
     /// 2Ah/03h RESERVATIONS PREEMPTED.
     ReservationsPreempted,
     /// 2Ah/04h RESERVATIONS RELEASED.
@@ -33,6 +35,7 @@ impl Kind {
             Kind::PowerOn | Kind::BusDeviceReset | Kind::NexusLoss => true,
             Kind::MediumChanged
             | Kind::ModeParametersChanged
+            | Kind::LogParametersChanged
             | Kind::ReservationsPreempted
             | Kind::ReservationsReleased
             | Kind::RegistrationsPreempted => false,

@@ -3,7 +3,7 @@ use arrayvec::ArrayVec;
 use std::marker::Model;
 
 /// How many kinds there are.
-const KINDS: usize = 8;
+const KINDS: usize = 9;
 
 /// The kinds that wait for one nexus, oldest first, each once at most.
 #[derive(Default, Drop)]

@@ -8,7 +8,7 @@ use Rattle.permit_tables.specs.declared.key_rule.KeyRule.{KeyRule}
 use Rattle.pr_core.specs.State.{keys_after}
 use Rattle.tape_medium.specs.declared.volume.VolumeTag.{VolumeTag}
 use Rattle.audit_log.specs.declared.record.Record.{Record}
-use Rattle.device_server.specs.View.{DeviceView, Drive, Changer}
+use Rattle.device_server.specs.View.{DeviceView, Drive, Changer, profile_of}
 use Rattle.judgement.specs.declared.reply.Reply.{Reply}
 use Rattle.logical_unit.specs.UnitView.{UnitView}
 use Rattle.unit_laws.specs.Rows.{a}
@@ -36,7 +36,7 @@ is_loaded_in (Drive d) = d.loaded
 is_loaded_in (Changer e) = false
 
 pub barred_write : (tag : VolumeTag) → BarredWrite tag
-unfolding cdb.command_of keys_after
+unfolding cdb.command_of profile_of keys_after
 barred_write tag = record {
   due = record { conflicts = (λ status allowed. cc, λ barred. refl); carried_out = λ allowed. absurd cc; unchanged = λ barred. refl };
   good = λ d. let e = d.conflicts.1 (λ allowed. cc) in cc;
@@ -54,7 +54,7 @@ barred_write tag = record {
 }
 
 pub barred_register : (tag : VolumeTag) → BarredRegister tag
-unfolding cdb.command_of keys_after
+unfolding cdb.command_of profile_of keys_after
 barred_register tag = record {
   due = record { conflicts = (λ status allowed. cc, λ barred. refl); carried_out = λ allowed. absurd cc; unchanged = λ barred. refl };
   no_rule = λ d. let e = ap (λ (x : UnitView × Reply). rule_in x.0.records) (d.unchanged (λ allowed. cc)) in cc;
@@ -62,7 +62,7 @@ barred_register tag = record {
 }
 
 pub allowed_write : (tag : VolumeTag) → AllowedWrite tag
-unfolding cdb.command_of keys_after
+unfolding cdb.command_of profile_of keys_after
 allowed_write tag = record {
   due = record { conflicts = (λ status allowed. cc, λ barred. absurd (barred refl)); carried_out = λ allowed. refl; unchanged = λ barred. absurd (barred refl) };
   conflict = λ d. d.conflicts.0 refl refl;

@@ -3,7 +3,7 @@
 use Rattle.std.specs.Prelude.{◌≡◌, ℕ, true, false, List, [], ◌∷◌, replicate, Some, None, Result, Ok, Err}
 use Rattle.scsi_nexus.specs.declared.nexus.Nexus.{Nexus}
 use Rattle.unit_attention.specs.declared.kind.Kind.{Kind}
-use Rattle.unit_attention.specs.declared.kind.Kind.TheVariants.{PowerOn, BusDeviceReset, NexusLoss, MediumChanged, ModeParametersChanged, ReservationsPreempted, ReservationsReleased, RegistrationsPreempted}
+use Rattle.unit_attention.specs.declared.kind.Kind.TheVariants.{PowerOn, BusDeviceReset, NexusLoss, MediumChanged, ModeParametersChanged, LogParametersChanged, ReservationsPreempted, ReservationsReleased, RegistrationsPreempted}
 use Rattle.permit_tables.specs.declared.res_type.ResType.{ResType}
 use Rattle.permit_tables.specs.declared.res_type.ResType.TheVariants.{Ea, Wero}
 use Rattle.tape_medium.specs.declared.volume.VolumeTag.{VolumeTag}
@@ -37,6 +37,8 @@ pub record SenseOfAttentions (tag : VolumeTag) : Type 0 where
   pub nexus_loss : told_of tag NexusLoss ≡ sense_with 6 0x29 0x07
   -- MODE PARAMETERS CHANGED
   pub mode_parameters_changed : told_of tag ModeParametersChanged ≡ sense_with 6 0x2A 0x01
+  -- LOG PARAMETERS CHANGED
+  pub log_parameters_changed : told_of tag LogParametersChanged ≡ sense_with 6 0x2A 0x02
   -- RESERVATIONS PREEMPTED
   pub reservations_preempted : told_of tag ReservationsPreempted ≡ sense_with 6 0x2A 0x03
   -- RESERVATIONS RELEASED

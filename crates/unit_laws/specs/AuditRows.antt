@@ -26,7 +26,7 @@ params action rk sark scope_type =
     record { rk = rk; sark = sark; dest = None; act = action; scope_type = scope_type; unreg = false; defect = None; all_ports = false; listed = false; targets = record { items = [] } }
 
 abbrev pub entry : (number : ℕ) → Act → Stage → Option Cell → Status → Record
-entry number act stage cell status = record { number = number; nexus = Some a; act = act; stage = stage; cell = cell; rule = None; status = status; sense = None; mode_changed = false }
+entry number act stage cell status = record { number = number; nexus = Some a; act = act; stage = stage; cell = cell; rule = None; status = status; sense = None; told = None }
 
 -- A's TEST UNIT READY, which tells it 29h/00h, its REGISTER and RESERVE of Write Exclusive, and TEST UNIT READY
 abbrev pub four : List Record

@@ -7,7 +7,7 @@ use Rattle.scsi_sense.specs.declared.status.Status.TheVariants.{ReservationConfl
 use Rattle.unit_attention.specs.Queues.{first_reset_of}
 use Rattle.pr_core.specs.State.{cell}
 use Rattle.pr_core.specs.declared.verdict.Verdict.TheVariants.{Allowed}
-use Rattle.device_server.specs.View.{kind_of}
+use Rattle.device_server.specs.View.{commands_of}
 use Rattle.judgement.specs.declared.decision.Decision.{Decision}
 use Rattle.judgement.specs.declared.reply.Reply.{Reply}
 use Rattle.judgement.specs.declared.command.Command.{Command}
@@ -22,7 +22,7 @@ use Rattle.logical_unit.specs.Step.{contacted_present, recorded, answered}
 
 -- the bytes decode to a command, and no attention of ASC 29h waits for its sender, or the command passes over it
 pub record ComesToTheCheck (u : UnitView) (n : Nexus) (cdb bytes : List ℕ) (command : Command) : Type 0 where
-  pub decodes : decoded_command (kind_of u.device) cdb bytes ≡ Ok command
+  pub decodes : decoded_command (commands_of u.device) cdb bytes ≡ Ok command
   pub ready : waiting (class_of_command command) (first_reset_of (after_contact u.state n).slots n) ≡ None
 
 -- what the record of a conflict says: the sender's cell, and the rule on keys where one was broken

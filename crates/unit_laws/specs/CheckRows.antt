@@ -39,7 +39,7 @@ first n asked stage class role rule status = record {
   rule = rule;
   status = status;
   sense = None;
-  mode_changed = false;
+  told = None;
 }
 
 -- a status alone, with the number of the first record

@@ -1,6 +1,9 @@
 -- Worked rows: MOVE MEDIUM between a changer at LUN 0, with one drive at 0100h and storage elements 0400h and 0401h, and that drive, LUN 1.
 -- A and B had contact with both; nobody is registered at the changer, but where a row says so.
 use Rattle.std.specs.Prelude.{◌≡◌, ℕ, Bool, true, false, List, [], ◌∷◌, map, replicate, Option, Some, None}
+use Rattle.scsi_cdb.specs.declared.kind.Kind.TheVariants.{Changer}
+use Rattle.scsi_cdb.specs.declared.profile.Profile.TheVariants.{Spec}
+use Rattle.scsi_cdb.specs.Kinds.{commands}
 use Rattle.scsi_cdb.specs.declared.classes.Class.TheVariants as class
 use Rattle.scsi_cdb.specs.declared.request.Request.TheVariants as request
 use Rattle.scsi_nexus.specs.declared.nexus.Nexus.{Nexus}
@@ -53,15 +56,15 @@ slot_2 = (0x04, 0x01)
 
 -- the drives that CDBs name, rising, each once
 pub record NamedDrives : Type 0 where
-  pub into : named 1 (move slot_1 drive_1) ≡ 1 ∷ []
-  pub out_of : named 1 (move drive_1 slot_1) ≡ 1 ∷ []
-  pub neither : named 1 (move slot_1 slot_2) ≡ []
-  pub upward : named 2 (move drive_1 drive_2) ≡ 1 ∷ 2 ∷ []
-  pub downward : named 2 (move drive_2 drive_1) ≡ 1 ∷ 2 ∷ []
-  pub onto_itself : named 2 (move drive_2 drive_2) ≡ 2 ∷ []
-  pub no_such_drive : named 1 (move slot_1 drive_2) ≡ []
-  pub test_unit_ready : named 1 (replicate 6 0) ≡ []
-  pub cut_short : named 1 (0xA5 ∷ 0 ∷ 0 ∷ 0 ∷ 0x04 ∷ 0x00 ∷ 0x01 ∷ 0x00 ∷ []) ≡ []
+  pub into : named (commands Spec Changer) 1 (move slot_1 drive_1) ≡ 1 ∷ []
+  pub out_of : named (commands Spec Changer) 1 (move drive_1 slot_1) ≡ 1 ∷ []
+  pub neither : named (commands Spec Changer) 1 (move slot_1 slot_2) ≡ []
+  pub upward : named (commands Spec Changer) 2 (move drive_1 drive_2) ≡ 1 ∷ 2 ∷ []
+  pub downward : named (commands Spec Changer) 2 (move drive_2 drive_1) ≡ 1 ∷ 2 ∷ []
+  pub onto_itself : named (commands Spec Changer) 2 (move drive_2 drive_2) ≡ 2 ∷ []
+  pub no_such_drive : named (commands Spec Changer) 1 (move slot_1 drive_2) ≡ []
+  pub test_unit_ready : named (commands Spec Changer) 1 (replicate 6 0) ≡ []
+  pub cut_short : named (commands Spec Changer) 1 (0xA5 ∷ 0 ∷ 0 ∷ 0 ∷ 0x04 ∷ 0x00 ∷ 0x01 ∷ 0x00 ∷ []) ≡ []
 
 -- a changer by the marks at its drives and what its storage elements hold
 abbrev pub library : List (Option VolumeTag) → (first second : Option Volume) → DeviceView

@@ -186,12 +186,12 @@ pub record RefusedAsDue (tag : VolumeTag) : Type 0 where
 -- a record with no cell and no rule
 abbrev pub noted : Nexus → Act → Stage → Status → Option Sense → Record
 noted n asked stage status sense =
-    record { number = 1; nexus = Some n; act = asked; stage = stage; cell = None; rule = None; status = status; sense = sense; mode_changed = false }
+    record { number = 1; nexus = Some n; act = asked; stage = stage; cell = None; rule = None; status = status; sense = sense; told = None }
 
 -- and in a cell
 abbrev pub noted_in : Nexus → Act → Stage → Status → Option Sense → Cell → Record
 noted_in n asked stage status sense cell =
-    record { number = 1; nexus = Some n; act = asked; stage = stage; cell = Some cell; rule = None; status = status; sense = sense; mode_changed = false }
+    record { number = 1; nexus = Some n; act = asked; stage = stage; cell = Some cell; rule = None; status = status; sense = sense; told = None }
 
 abbrev pub unsensed : Sense
 unsensed = record { valid = false; filemark = false; eom = false; ili = false; key = 5; information = 0; asc = 0x24; ascq = 0 }

@@ -1,12 +1,12 @@
 -- Worked rows: records that stand in a legal trail, each beside neighbours that don't. The drive is that of the other rows, which A holds.
-use Rattle.std.specs.Prelude.{◌≡◌, ℕ, zero, suc, true, false, List, [], ◌∷◌, ◌++◌, Option, Some, None}
+use Rattle.std.specs.Prelude.{◌≡◌, ℕ, zero, suc, List, [], ◌∷◌, ◌++◌, Option, Some, None}
 use Rattle.scsi_cdb.specs.declared.classes.Class.{Class}
 use Rattle.scsi_cdb.specs.declared.classes.Class.TheVariants as class
 use Rattle.scsi_nexus.specs.declared.nexus.Nexus.{Nexus}
 use Rattle.scsi_sense.specs.declared.sense.Sense.{Sense}
 use Rattle.scsi_sense.specs.declared.status.Status.TheVariants.{Good, CheckCondition, ReservationConflict}
 use Rattle.unit_attention.specs.declared.kind.Kind.{Kind}
-use Rattle.unit_attention.specs.declared.kind.Kind.TheVariants.{PowerOn, BusDeviceReset, NexusLoss, MediumChanged, ModeParametersChanged, ReservationsPreempted, ReservationsReleased, RegistrationsPreempted}
+use Rattle.unit_attention.specs.declared.kind.Kind.TheVariants.{PowerOn, BusDeviceReset, NexusLoss, MediumChanged, ModeParametersChanged, LogParametersChanged, ReservationsPreempted, ReservationsReleased, RegistrationsPreempted}
 use Rattle.unit_attention.specs.Queues.{Slots}
 use Rattle.permit_tables.specs.declared.cell.Cell.{Cell}
 use Rattle.permit_tables.specs.declared.key_rule.KeyRule.{KeyRule}
@@ -91,11 +91,13 @@ pub record ReportsFirst : Type 0 where
 pub record ReportsLater : Type 0 where
   pub medium : IsJudged (waits (MediumChanged ∷ [])) (told_later 0x28 0x00)
   pub mode : IsJudged (waits (ModeParametersChanged ∷ [])) (told_later 0x2A 0x01)
+  pub log : IsJudged (waits (LogParametersChanged ∷ [])) (told_later 0x2A 0x02)
   pub preempted : IsJudged (waits (ReservationsPreempted ∷ [])) (told_later 0x2A 0x03)
   pub released : IsJudged (waits (ReservationsReleased ∷ [])) (told_later 0x2A 0x04)
   pub registrations : IsJudged (waits (RegistrationsPreempted ∷ [])) (told_later 0x2A 0x05)
   pub medium_as_reset : IsJudged (waits (MediumChanged ∷ [])) (told_later 0x29 0x00) → ⊥
   pub mode_as_preempted : IsJudged (waits (ModeParametersChanged ∷ [])) (told_later 0x2A 0x03) → ⊥
+  pub mode_as_log : IsJudged (waits (ModeParametersChanged ∷ [])) (told_later 0x2A 0x02) → ⊥
   pub preempted_as_registrations : IsJudged (waits (ReservationsPreempted ∷ [])) (told_later 0x2A 0x05) → ⊥
   pub released_as_preempted : IsJudged (waits (ReservationsReleased ∷ [])) (told_later 0x2A 0x03) → ⊥
   pub registrations_as_released : IsJudged (waits (RegistrationsPreempted ∷ [])) (told_later 0x2A 0x04) → ⊥
@@ -133,21 +135,22 @@ pub record InvalidRecords : Type 0 where
   pub in_a_cell : IsJudged at_rest (record (invalid 0x24) { cell = Some (cell_of class.Write Other) }) → ⊥
   pub good : IsJudged at_rest (record (invalid 0x24) { status = Good; sense = None }) → ⊥
 
--- MODE PARAMETERS
+-- WHAT THE OTHERS ARE TOLD
 
--- A's command that changed them
+-- A's command that told them of changed mode parameters
 abbrev pub changed : Class → Record
-changed class = record (noted_in a (act.Command class) Device Good None (cell_of class Holder)) { mode_changed = true }
+changed class = record (noted_in a (act.Command class) Device Good None (cell_of class Holder)) { told = Some ModeParametersChanged }
 
--- only a MODE SELECT that is GOOD does, of which every other slot is told
+-- only a MODE SELECT that is GOOD does, and it tells every other slot that, and nothing else
 pub record ModeRecords : Type 0 where
   pub mode_select : IsJudged at_rest (changed class.ModeSelect)
   pub told : kept_by at_rest (changed class.ModeSelect) ≡ waits_for_b ModeParametersChanged
   pub write : IsJudged at_rest (changed class.Write) → ⊥
   pub mode_sense : IsJudged at_rest (changed class.ModeSense) → ⊥
+  pub another_kind : IsJudged at_rest (record (changed class.ModeSelect) { told = Some MediumChanged }) → ⊥
   pub refused : IsJudged at_rest (record (changed class.ModeSelect) { stage = Fields; status = CheckCondition; sense = Some unsensed }) → ⊥
   pub checked : IsJudged at_rest (record (changed class.ModeSelect) { status = CheckCondition; sense = Some unsensed }) → ⊥
-  pub conflict : IsJudged at_rest (record (barred (cell_of class.Write Other)) { mode_changed = true }) → ⊥
+  pub conflict : IsJudged at_rest (record (barred (cell_of class.Write Other)) { told = Some ModeParametersChanged }) → ⊥
 
 -- ROOM FOR A SENDER
 
@@ -177,7 +180,7 @@ pub record RoomForSenders : Type 0 where
 
 -- an event without a nexus
 abbrev pub happened : Act → Record
-happened event = record { number = 1; nexus = None; act = event; stage = Device; cell = None; rule = None; status = Good; sense = None; mode_changed = false }
+happened event = record { number = 1; nexus = None; act = event; stage = Device; cell = None; rule = None; status = Good; sense = None; told = None }
 
 -- a volume is taken out where nobody prevents it; it comes in also there
 pub record MediumRecords : Type 0 where

@@ -13,6 +13,7 @@ use output_lines::{Audit, Explanations};
 use permission_chart::write_cells;
 use program_options::{LibraryOptions, MAX_READS};
 use replay::{ReplayFault, replay};
+use scsi_cdb::Profile;
 use std::fs::Files;
 use std::io::Write;
 use std::net::{Net, TcpListener, TcpStream};
@@ -99,7 +100,7 @@ fn perform<
         }
         Task::Client(host, explanations) => Ok(client(rt, host, explanations)?),
         Task::Cells(class) => {
-            write_cells(&mut io::writer(rt), class).map_err(|_| ProgramFault::Cells)
+            write_cells(&mut io::writer(rt), Profile::Spec, class).map_err(|_| ProgramFault::Cells)
         }
         Task::CheckMedia(folder) => { Ok(check_folder(rt, folder, &mut io::writer(rt), errors)?) }
     }

@@ -5,7 +5,7 @@ use iscsi_session::{Entrant, Joined, KeepingService, NexusEnd, SessionIdentity, 
 use judgement::ReceivedCommand;
 use library_start::{Device, unit_at};
 use logical_unit::{Done, EventKind};
-use scsi_cdb::Kind;
+use scsi_cdb::{Profile, commands_at};
 use scsi_nexus::Nexus;
 use session::{Service, SessionFault};
 use std::alloc::Global;
@@ -232,7 +232,7 @@ impl Service for Units<'_> {
     ) -> Done<'a> {
         self.note_handed(operation_of(cdb), lun);
         if lun == ABSENT {
-            let received = ReceivedCommand::new(nexus, Kind::Drive, cdb, bytes);
+            let received = ReceivedCommand::new(nexus, commands_at(Profile::Spec, lun), cdb, bytes);
             Done::absent(alloc, lun, &received)
         } else {
             Done::busy(alloc, Some(nexus), lun, EventKind::Command { cdb, bytes })

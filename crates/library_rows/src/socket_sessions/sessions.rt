@@ -4,7 +4,7 @@ use super::assert_same;
 use iscsi_session::KeepingService;
 use judgement::ReceivedCommand;
 use logical_unit::{Done, EventKind};
-use scsi_cdb::Kind;
+use scsi_cdb::{Profile, commands_at};
 use scsi_nexus::Nexus;
 use session::{Directory, Service, SessionFault, serve};
 use std::alloc::Global;
@@ -51,7 +51,7 @@ impl Service for Empty {
         cdb: &'a [u8],
         bytes: &'a [u8],
     ) -> Done<'a> {
-        let received = ReceivedCommand::new(nexus, Kind::Drive, cdb, bytes);
+        let received = ReceivedCommand::new(nexus, commands_at(Profile::Spec, lun), cdb, bytes);
         Done::absent(alloc, lun, &received)
     }
 

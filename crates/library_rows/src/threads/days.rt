@@ -2,6 +2,7 @@
 ghost use Rattle.std.specs.Prelude.{◌≡◌, ◌<◌, ◌+◌};
 ghost use Rattle.logical_unit.specs.UnitView.{units_of};
 ghost use Rattle.lun_router.specs.Blanks.{AreBlanks};
+ghost use Rattle.target_core.specs.Faults.{profile_in};
 ghost use Rattle.lun_router.specs.Opening.{IsSince};
 
 use super::gates::{Flags, TestGate};
@@ -36,6 +37,7 @@ fn day<B: Ledgers + Send + Sync, R: Abort + Clock + Threads + Wait + Sync>(
     requires blanks { AreBlanks B.names B.all_parts blanks }
     requires parts { B.all_parts ≡ seats + 1 }
     requires since { IsSince (units_of core) B.since_of }
+    requires profile { profile_in (units_of core) ≡ B.profile }
 {
     match Library::<B, Device, TestGate<'_>>::new(alloc, core, seats, blanks, gate) {
         Ok((library, all)) => play(rt, alloc, library, all, flags, scene),

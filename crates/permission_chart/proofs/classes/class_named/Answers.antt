@@ -6,15 +6,16 @@ use Rattle.permission_chart.proofs.EachClass.{every_class_has}
 use Rattle.permission_chart.specs.Classes.{every_class}
 use Rattle.permission_chart.specs.Names.{IsNameOf}
 use Rattle.scsi_cdb.specs.declared.classes.Class.TheVariants.{TestUnitReady}
+use Rattle.scsi_cdb.specs.declared.profile.Profile.TheVariants.{Hosts}
 use Rattle.permission_chart.proofs.classes.class_named.Goals as goal
 
 pub loop-class-preserved : goal.loop-class-preserved
 loop-class-preserved c =
-    All-more (λ k. ¬ IsNameOf c.args.name.now k) every_class c.loop-class.class-index TestUnitReady c.loop-class-test.true c.loop-class.invariant
+    All-more (λ k. ¬ IsNameOf c.args.name.now k) (every_class Hosts) c.loop-class.class-index TestUnitReady c.loop-class-test.true c.loop-class.invariant
     (λ same. let different = c.if-eq_ignore_ascii_case.ensures.test.1 (same ∙ sym (ap (map to_ascii_lowercase) c.class_text.ensures)) in search (rules, different))
 
 pub returns : goal.returns
-returns c = λ k. All-contains (λ x. ¬ IsNameOf c.args.name.now x) every_class k (rw (take_all c.loop-class.class-index every_class c.loop-class-test.false) at c.loop-class.invariant) (every_class_has k)
+returns c = λ k. All-contains (λ x. ¬ IsNameOf c.args.name.now x) (every_class Hosts) k (rw (take_all c.loop-class.class-index (every_class Hosts) c.loop-class-test.false) at c.loop-class.invariant) (every_class_has k)
 
 pub returns-then-eq_ignore_ascii_case : goal.returns-then-eq_ignore_ascii_case
 returns-then-eq_ignore_ascii_case c = search rules

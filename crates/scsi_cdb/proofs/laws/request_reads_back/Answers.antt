@@ -1,9 +1,20 @@
-use Rattle.std.proofs.Common.{rules}
-use Rattle.scsi_cdb.specs.Commands.{command_of}
+use Rattle.std.proofs.Common.{rules, ◌≡◌, Ok}
+use Rattle.scsi_cdb.specs.Commands.{command_of, decoded}
+use Rattle.scsi_cdb.specs.Encoding.{encoded, Fits, IsOf}
+use Rattle.scsi_cdb.specs.Kinds.{commands}
+use Rattle.scsi_cdb.specs.declared.kind.Kind.{Kind}
+use Rattle.scsi_cdb.specs.declared.profile.Profile.{Profile}
+use Rattle.scsi_cdb.specs.declared.profile.Profile.TheVariants.{Spec, Hosts}
+use Rattle.scsi_cdb.specs.declared.request.Request.{Request}
 use Rattle.scsi_cdb.specs.declared.request.Request.TheVariants.{WriteFilemarks}
 use Rattle.scsi_cdb.proofs.laws.request_reads_back.Goals as goal
 
-pub returns : goal.returns
+reads_back : (profile : Profile) (kind : Kind) (r : Request) → IsOf (commands profile kind) r → Fits r → decoded (commands profile kind) (encoded r) ≡ Ok r
 unfolding command_of
-returns c kind (WriteFilemarks wsmk immed n) is fits = search rules
-returns c kind r is fits = search rules
+reads_back Spec kind (WriteFilemarks wsmk immed n) is fits = search rules
+reads_back Hosts kind (WriteFilemarks wsmk immed n) is fits = search rules
+reads_back Spec kind r is fits = search rules
+reads_back Hosts kind r is fits = search rules
+
+pub returns : goal.returns
+returns c s r is fits = reads_back s.profile s.kind r is fits

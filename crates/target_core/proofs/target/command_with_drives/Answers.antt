@@ -1,14 +1,12 @@
 use Rattle.std.proofs.lemmas.Grind.{common_steps}
 use Rattle.std.proofs.Common.{get_or, sym, ap, ◌∙◌, arith}
-use Rattle.logical_unit.specs.UnitView.{units_of}
-use Rattle.target_core.proofs.Ordered.{ordered}
 use Rattle.target_core.proofs.MovesInPlace.{names_at, one_within, two_within, alone_moved, empty_is, single_is, pair_is, lun_of, luns_of}
 use Rattle.target_core.proofs.WhyBusy.{alone_busy}
 use Rattle.target_core.proofs.target.command_with_drives.Goals as goal
 
 pub move_at-requires-clause-named : goal.move_at-requires-clause-named
 move_at-requires-clause-named g c =
-    names_at c.args.changer.now c.args.drives.now c.args.received.now.cdb _ c.requires.ordered
+    names_at c.args.changer.now c.args.drives.now c.args.received.now.commands c.args.received.now.cdb _ c.requires.ordered c.requires.kind
     (sym c.named-luns.ensures ∙ sym c.as_slice.ensures.value ∙ single_is c.as_slice.result.now c.in-len1.len_at_least c.in-len1.len_below ∙
     ap lun_of (sym c.from.ensures))
 
@@ -22,7 +20,7 @@ move_at-requires-clause-within g c = (one_within c.args.changer.now c.args.drive
 
 pub move_between-requires-clause-named : goal.move_between-requires-clause-named
 move_between-requires-clause-named g c =
-    names_at c.args.changer.now c.args.drives.now c.args.received.now.cdb _ c.requires.ordered
+    names_at c.args.changer.now c.args.drives.now c.args.received.now.commands c.args.received.now.cdb _ c.requires.ordered c.requires.kind
     (sym c.named-luns.ensures ∙ sym c.as_slice.ensures.value ∙ pair_is c.as_slice.result.now c.in-len2-up.len_at_least
     c.as_slice.ensures.fits
     ∙ ap (λ l. luns_of l (get_or c.as_slice.result.now 1 0)) (sym c.from-low.ensures) ∙ ap (luns_of c.from-low.result)
@@ -42,7 +40,7 @@ move_between-requires-clause-within g c = (two_within c.args.changer.now c.args.
 
 pub returns-in-empty : goal.returns-in-empty
 returns-in-empty g c =
-    let names = names_at c.args.changer.now c.args.drives.now c.args.received.now.cdb _ c.requires.ordered
+    let names = names_at c.args.changer.now c.args.drives.now c.args.received.now.commands c.args.received.now.cdb _ c.requires.ordered c.requires.kind
     (sym c.named-luns.ensures ∙ sym c.as_slice.ensures.value ∙ empty_is c.as_slice.result.now c.in-empty.len_below) in
     record {
       step = alone_moved c.args.changer.now c.execute.new.self c.args.drives.now c.args.received.now.nexus c.args.received.now.cdb
@@ -55,4 +53,4 @@ pub overflow_cast-drives : goal.overflow_cast-drives
 overflow_cast-drives g c = grind (arith, common_steps)
 
 pub execute-requires : goal.execute-requires
-execute-requires g c = c.requires.kind ∙ sym (ordered c.args.changer.now.unit (units_of c.args.drives.now) c.requires.ordered).kind
+execute-requires g c = c.requires.kind

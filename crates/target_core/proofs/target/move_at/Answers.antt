@@ -1,6 +1,4 @@
-use Rattle.std.proofs.Common.{◌-◌, ◌<◌, ◌∙◌, sym, length, arith}
-use Rattle.logical_unit.specs.UnitView.{units_of}
-use Rattle.target_core.proofs.Ordered.{ordered}
+use Rattle.std.proofs.Common.{◌-◌, ◌<◌, length, arith}
 use Rattle.target_core.proofs.MovesInPlace.{one_asked, one_moved, at_lun}
 use Rattle.target_core.proofs.WhyBusy.{one_busy}
 use Rattle.target_core.proofs.target.move_at.Goals as goal
@@ -8,7 +6,7 @@ use Rattle.target_core.proofs.target.move_at.Goals as goal
 pub move_one-requires : goal.move_one-requires
 move_one-requires g c =
     record {
-      kind = c.requires.kind ∙ sym (ordered c.args.changer.now.unit (units_of c.args.drives.now) c.requires.ordered).kind;
+      kind = c.requires.kind;
       named = one_asked c.args.changer.now c.args.drives.now c.requires.ordered c.args.received.now.cdb (c.args.lun - 1)
           c.index-drives-lun.result (omega (arith, c.requires.place, c.requires.within))
           (at_lun c.args.changer.now c.args.drives.now c.requires.ordered c.args.received.now.cdb c.args.lun c.requires.place

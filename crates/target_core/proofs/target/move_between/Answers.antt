@@ -1,6 +1,3 @@
-use Rattle.std.proofs.Common.{◌∙◌, sym}
-use Rattle.logical_unit.specs.UnitView.{units_of}
-use Rattle.target_core.proofs.Ordered.{ordered}
 use Rattle.target_core.proofs.MovesInPlace.{asked_in_parts, moved_in_parts, at_luns}
 use Rattle.target_core.proofs.WhyBusy.{two_busy_in_parts}
 use Rattle.target_core.proofs.target.move_between.Goals as goal
@@ -9,7 +6,7 @@ pub move_two-requires : goal.move_two-requires
 move_two-requires g c =
     let parts = c.split_at_mut-lower.result in
     record {
-      kind = c.requires.kind ∙ sym (ordered c.args.changer.now.unit (units_of c.args.drives.now) c.requires.ordered).kind;
+      kind = c.requires.kind;
       named = asked_in_parts c.args.changer.now c.args.drives.now parts.0.now parts.1.now c.args.received.now.cdb c.args.low c.args.high
           c.index-lower-low.result c.index-upper-0.result c.requires.ordered c.split_at_mut-lower.ensures.value
           c.split_at_mut-lower.ensures.front_len c.requires.place c.requires.rising c.requires.within c.requires.named;

@@ -1,10 +1,11 @@
 use Rattle.std.proofs.Common.{refl}
 use Rattle.scsi_cdb.specs.Commands as cdb
 use Rattle.pr_core.specs.State.{keys_after}
+use Rattle.device_server.specs.View.{profile_of}
 use Rattle.unit_laws.proofs.laws.decided_at_the_check.Goals as goal
 
 pub returns : goal.returns
-unfolding cdb.command_of keys_after
+unfolding cdb.command_of profile_of keys_after
 returns c tag = record {
   holder_comes = record { decodes = refl; ready = refl };
   holder_verdict = refl;

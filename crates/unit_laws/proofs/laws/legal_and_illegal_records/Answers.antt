@@ -16,7 +16,7 @@ returns-clause-legal c = record {
       whole = inr (refl, refl);
       fields = λ e. record { condition = InvalidFieldInCdb; of_class = refl; status = refl; sense = refl };
       unit = λ own e. absurd cc;
-      mode = λ e. absurd cc;
+      told = λ kind e. absurd cc;
     };
   };
 }

@@ -1,9 +1,10 @@
 use Rattle.std.proofs.Common.{refl}
 use Rattle.scsi_cdb.specs.Commands as cdb
+use Rattle.device_server.specs.View.{profile_of}
 use Rattle.unit_laws.proofs.laws.named_drives.Goals as goal
 
 pub returns : goal.returns
-unfolding cdb.command_of
+unfolding cdb.command_of profile_of
 returns c = record {
   into = refl;
   out_of = refl;

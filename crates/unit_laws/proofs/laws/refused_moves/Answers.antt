@@ -1,10 +1,11 @@
 use Rattle.std.proofs.Common.{refl}
 use Rattle.scsi_cdb.specs.Commands as cdb
 use Rattle.pr_core.specs.State.{keys_after}
+use Rattle.device_server.specs.View.{profile_of}
 use Rattle.unit_laws.proofs.laws.refused_moves.Goals as goal
 
 pub returns-clause-drives : goal.returns-clause-drives
-unfolding cdb.command_of keys_after
+unfolding cdb.command_of profile_of keys_after
 returns-clause-drives c = record {
   prevented = record { told = refl; changer = refl; drive = refl };
   prevented_first = record { told = refl; changer = refl; drive = refl };
@@ -15,5 +16,5 @@ returns-clause-drives c = record {
 }
 
 pub returns-clause-changer : goal.returns-clause-changer
-unfolding cdb.command_of keys_after
+unfolding cdb.command_of profile_of keys_after
 returns-clause-changer c = record { other = record { told = refl; changer = refl; drive = refl } }

@@ -5,5 +5,5 @@ use Rattle.kept_unit.proofs.kept.Kept.lose.Goals as goal
 
 pub invariant_of-self : goal.invariant_of-self
 invariant_of-self g c =
-    lost_kept _ _ _ _ _ c.count_at.result _ _ _ _ c.carry_out_loss-done.ensures.step c.self.invariant
+    lost_kept _ _ _ _ _ _ c.count_at.result _ _ _ _ c.carry_out_loss-done.ensures.step c.self.invariant
     (c.count_at.ensures ∙ ap (count_at g.row.LUN) (c.carry_out_loss-done.ensures.numbers ∙ ap (λ (lun : ℕ). own_number lun c.carry_out_loss-done.result.reply.number) c.self.invariant.place)) c.add.ensures.total

@@ -5,7 +5,7 @@ use Rattle.kept_unit.proofs.kept.Kept.step.Goals as goal
 
 pub invariant_of-self : goal.invariant_of-self
 invariant_of-self g c =
-    stays_kept _ _ _ _ _ _ _ c.count_at.result _ _ _ _ c.carry_out-done.ensures.step c.self.invariant
+    stays_kept _ _ _ _ _ _ _ _ c.count_at.result _ _ _ _ c.carry_out-done.ensures.step c.self.invariant
     (c.count_at.ensures ∙ ap (count_at g.row.LUN) (c.carry_out-done.ensures.numbers ∙ ap (λ (lun : ℕ). own_number lun c.carry_out-done.result.reply.number) c.self.invariant.place)) c.add.ensures.total
 
 pub returns-clause-step : goal.returns-clause-step

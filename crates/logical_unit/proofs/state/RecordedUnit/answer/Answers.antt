@@ -8,7 +8,7 @@ use Rattle.logical_unit.proofs.state.RecordedUnit.answer.Goals as goal
 
 pub invariant_of-self-2 : goal.invariant_of-self-2
 invariant_of-self-2 g c =
-    let plain = subst IsPlainIf (sym c.in_ok-decoded.ensures.ok) (decoded_plain c.args.received.now.kind c.args.received.now.cdb
+    let plain = subst IsPlainIf (sym c.in_ok-decoded.ensures.ok) (decoded_plain c.args.received.now.commands c.args.received.now.cdb
     c.args.received.now.bytes) in
     let slot = subst (λ (v : RecordedUnitView). has_room v.state c.args.received.now.nexus ≡ true) (sym c.self.view_is) c.requires.slot in
     let room : has_room c.self.inside.state c.nexus-nexus.result ≡ true = subst (λ n. has_room c.self.inside.state n ≡ true)
@@ -29,7 +29,7 @@ returns-clause-ok g c =
       room = c.self.inside.trail.room;
     }) _
     c.nexus-nexus.result c.args.received.now.nexus c.args.received.now.cdb c.bytes.result.now c.args.received.now.bytes
-    c.args.received.now.kind c.in_ok-decoded.decoded c.in_ok-act.act (
+    c.args.received.now.commands c.in_ok-decoded.decoded c.in_ok-act.act (
       record { device = g.D.DeviceServer.shown c.judge.new.device.value; state = c.judge.new.state },
       c.in_ok-decision.decision,
       c.in_ok-decision.reply,

@@ -1,7 +1,7 @@
-use Rattle.std.proofs.Common.{◌≡◌, true, refl, sym, ap, subst, ◌∙◌}
+use Rattle.std.proofs.Common.{rules, ◌≡◌, List, ℕ, Result, true, false, refl, sym, ap, subst, ◌∙◌}
 use Rattle.scsi_sense.specs.declared.condition.Condition.TheVariants.{InternalTargetFailure}
-use Rattle.scsi_cdb.specs.declared.kind.Kind.{Kind}
-use Rattle.device_server.specs.View.{kind_of}
+use Rattle.scsi_cdb.specs.declared.profile.CommandSet.{CommandSet}
+use Rattle.device_server.specs.View.{commands_of}
 use Rattle.judgement.specs.Judge.{judged_as}
 use Rattle.judgement.specs.JudgedUnit.{JudgedUnit}
 use Rattle.judgement.specs.Commands.{decoded_command, act_of, act_of_decoded}
@@ -15,7 +15,12 @@ use Rattle.logical_unit.specs.UnitView.{RecordedUnitView, unit_of}
 use Rattle.logical_unit.proofs.LeftToDrives.{Opens, opens}
 use Rattle.logical_unit.proofs.DeviceCommands.{IsPlainIf, decoded_plain}
 use Rattle.logical_unit.proofs.Legal.{answered_stands}
-use Rattle.logical_unit.proofs.Executed.{judged_alike}
+use Rattle.logical_unit.specs.Move.{is_left, judged_at}
+use Rattle.judgement.specs.declared.command.Command.{Command}
+use Rattle.judgement.specs.declared.decision.Decision.{Decision}
+use Rattle.judgement.specs.declared.reply.Reply.{Reply}
+use Rattle.scsi_sense.specs.declared.condition.Condition.{Condition}
+use Rattle.logical_unit.proofs.Executed.{answered_alike, judged_alike}
 use Rattle.logical_unit.proofs.state.RecordedUnit.begin.Given as given
 use Rattle.logical_unit.proofs.state.RecordedUnit.begin.Goals as goal
 
@@ -54,23 +59,23 @@ opened : (g : given.Over) (c : goal.Joined-decoded-5 g)
       device = g.D.DeviceServer.shown c.args.device.now.value;
       state = after_contact c.self.inside.state
           c.args.received.now.nexus;
-    }) c.args.received.now.nexus (decoded_command (kind_of (g.D.DeviceServer.shown c.args.device.now.value))
+    }) c.args.received.now.nexus (decoded_command (commands_of (g.D.DeviceServer.shown c.args.device.now.value))
     c.args.received.now.cdb c.args.received.now.bytes) c.args.received.now.bytes)
 opened g c =
-    let kind_is : c.args.received.now.kind ≡ kind_of (g.D.DeviceServer.shown c.args.device.now.value) = c.requires.kind in
+    let commands_are : c.args.received.now.commands ≡ commands_of (g.D.DeviceServer.shown c.args.device.now.value) = c.requires.kind in
     opens (g.D.DeviceServer.shown c.args.device.now.value) c.self.inside.state c.args.received.now.nexus c.args.received.now.cdb
     c.args.received.now.bytes c.args.route c.in_ok-decoded.decoded c.in_ok-act.act _ c.in-Left.decision (check InternalTargetFailure)
     c.requires.changer c.requires.route (subst (λ (v : RecordedUnitView). has_room v.state c.args.received.now.nexus ≡ true)
     (sym c.self.view_is) c.requires.slot)
-    (c.in_ok-decoded.ensures.ok ∙ ap (λ (k : Kind). decoded_command k c.args.received.now.cdb c.args.received.now.bytes) kind_is)
+    (c.in_ok-decoded.ensures.ok ∙ ap (λ (k : CommandSet). decoded_command k c.args.received.now.cdb c.args.received.now.bytes) commands_are)
     c.in_ok-act.ensures.ok (judged_so g c) refl
 
 asked_by : (g : given.Over) (c : goal.Joined-decoded-5 g) → c.in_ok-act.act ≡ act_of
-    (kind_of (g.D.DeviceServer.shown c.args.device.now.value)) c.args.received.now.cdb c.args.received.now.bytes
+    (commands_of (g.D.DeviceServer.shown c.args.device.now.value)) c.args.received.now.cdb c.args.received.now.bytes
 asked_by g c =
-    let kind_is : c.args.received.now.kind ≡ kind_of (g.D.DeviceServer.shown c.args.device.now.value) = c.requires.kind in
-    c.in_ok-act.ensures.ok ∙ ap act_of_decoded (c.in_ok-decoded.ensures.ok ∙ ap (λ (k : Kind). decoded_command k c.args.received.now.cdb
-    c.args.received.now.bytes) kind_is)
+    let commands_are : c.args.received.now.commands ≡ commands_of (g.D.DeviceServer.shown c.args.device.now.value) = c.requires.kind in
+    c.in_ok-act.ensures.ok ∙ ap act_of_decoded (c.in_ok-decoded.ensures.ok ∙ ap (λ (k : CommandSet). decoded_command k c.args.received.now.cdb
+    c.args.received.now.bytes) commands_are)
 
 pub invariant_of-self-in-Left : goal.invariant_of-self-in-Left
 invariant_of-self-in-Left g c = (c.self.invariant.0, ap (λ (p : JudgedUnit). p.state) (opened g c).same ∙ c.self.invariant.1)
@@ -97,7 +102,7 @@ returns-in-Left-clause-device g c = λ left. ap (λ (p : JudgedUnit). p.device) 
 
 pub invariant_of-self-2 : goal.invariant_of-self-2
 invariant_of-self-2 g c =
-    let plain = subst IsPlainIf (sym c.in_ok-decoded.ensures.ok) (decoded_plain c.args.received.now.kind c.args.received.now.cdb
+    let plain = subst IsPlainIf (sym c.in_ok-decoded.ensures.ok) (decoded_plain c.args.received.now.commands c.args.received.now.cdb
     c.args.received.now.bytes) in
     let slot = subst (λ (v : RecordedUnitView). has_room v.state c.args.received.now.nexus ≡ true) (sym c.self.view_is) c.requires.slot in
     let room : has_room c.self.inside.state c.nexus-nexus.result ≡ true = subst (λ n. has_room c.self.inside.state n ≡ true)
@@ -109,3 +114,32 @@ invariant_of-self-2 g c =
     (answered_stands c.self.inside.base c.self.inside.state c.judge_move.new.state c.self.inside.trail.records _ _ c.nexus-nexus.result
     c.in_ok-decoded.decoded c.bytes.result.now _ c.in_ok-act.act c.in-Ended.decision c.in-Ended.reply c.self.invariant room plain
     c.in_ok-act.ensures.ok found.1)
+
+pub returns-clause-begins : goal.returns-clause-begins
+returns-clause-begins g c =
+    let d = g.D.DeviceServer.shown c.args.device.now.value in
+    let n = c.args.received.now.nexus in
+    let cdb = c.args.received.now.cdb in
+    let bytes = c.args.received.now.bytes in
+    let out : JudgedUnit × Decision × Reply = (record { device = g.D.DeviceServer.shown c.judge_move.new.device.value; state = c.judge_move.new.state }, c.in-Ended.decision, c.in-Ended.reply) in
+    let found = subst (λ (f : MoveFinding). FindsMove d (g.D.DeviceServer.shown c.judge_move.new.device.value) c.self.inside.state c.judge_move.new.state
+    c.nexus-nexus.result c.in_ok-decoded.decoded c.bytes.result.now f) c.in-Ended.is c.in_ok-found.ensures.ok in
+    let decoded_so : c.in_ok-decoded.decoded ≡ decoded_command (commands_of d) cdb bytes
+    = c.in_ok-decoded.ensures.ok ∙ ap (λ (k : CommandSet). decoded_command k cdb bytes) c.requires.kind in
+    let judged_so = judged_alike d c.self.inside.state c.in_ok-decoded.decoded c.nexus-nexus.result n c.bytes.result.now bytes out c.nexus-nexus.ensures
+    c.bytes.ensures found.1 in
+    let inside : RecordedUnitView = record {
+      state = c.self.inside.state;
+      base = record { state = c.self.inside.base; last = c.self.inside.trail.base };
+      records = c.self.inside.trail.records;
+      room = c.self.inside.trail.room;
+    } in
+    record {
+      ended = subst (λ (w : RecordedUnitView). is_left (judged_at (unit_of d w) n cdb bytes).2.sense ≡ false) c.self.view_is
+          (ap (λ (x : JudgedUnit × Decision × Reply). is_left x.2.sense)
+          (ap (λ (t : Result Command Condition). judged_as (record { device = d; state = after_contact c.self.inside.state n }) n t bytes) (sym decoded_so)
+          ∙ judged_so) ∙ found.0);
+      answer = answered_alike d inside _ c.nexus-nexus.result n cdb c.bytes.result.now bytes c.args.received.now.commands c.in_ok-decoded.decoded
+          c.in_ok-act.act out _ c.self.view_is c.nexus-nexus.ensures c.bytes.ensures c.requires.kind c.in_ok-decoded.ensures.ok c.in_ok-act.ensures.ok
+          found.1 (search rules fits 100);
+    }

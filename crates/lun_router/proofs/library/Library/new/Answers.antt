@@ -1,7 +1,10 @@
 use Rattle.std.proofs.Common.{◌≡◌, [], ◌∷◌, List, sym, subst, arith, rules}
 use Rattle.std.specs.Prelude.{All}
 use Rattle.std.proofs.lemmas.List.Elements.{All-append, All-cons, All-nil}
+use Rattle.std.specs.Option.{ForSome}
+use Rattle.scsi_cdb.specs.declared.profile.Profile.{Profile}
 use Rattle.lun_router.specs.Seats.{SeatValue, IsUntold}
+use Rattle.lun_router.specs.Units.{IsAt}
 use Rattle.lun_router.proofs.library.Library.new.Goals as goal
 
 pub loop-i-preserved : goal.loop-i-preserved
@@ -45,3 +48,23 @@ loop-i-init g c =
       amounts.3,
       amounts.4,
     )
+
+pub open-locks-requires-clause-changer : goal.open-locks-requires-clause-changer
+open-locks-requires-clause-changer g c =
+    λ κs within. subst (λ (p : Profile). IsAt p 0 c.split_units.result.changer.unit) c.requires.profile c.split_units.ensures.changer
+
+pub open-locks-requires-clause-first : goal.open-locks-requires-clause-first
+open-locks-requires-clause-first g c =
+    λ κs within. subst (λ (p : Profile). IsAt p 1 c.split_units.result.first.unit) c.requires.profile c.split_units.ensures.first
+
+pub open-locks-requires-clause-second : goal.open-locks-requires-clause-second
+open-locks-requires-clause-second g c =
+    λ κs within. subst (λ (p : Profile). ForSome c.split_units.result.second (λ u. IsAt p 2 u.unit)) c.requires.profile c.split_units.ensures.second
+
+pub open-locks-requires-clause-third : goal.open-locks-requires-clause-third
+open-locks-requires-clause-third g c =
+    λ κs within. subst (λ (p : Profile). ForSome c.split_units.result.third (λ u. IsAt p 3 u.unit)) c.requires.profile c.split_units.ensures.third
+
+pub open-locks-requires-clause-fourth : goal.open-locks-requires-clause-fourth
+open-locks-requires-clause-fourth g c =
+    λ κs within. subst (λ (p : Profile). ForSome c.split_units.result.fourth (λ u. IsAt p 4 u.unit)) c.requires.profile c.split_units.ensures.fourth

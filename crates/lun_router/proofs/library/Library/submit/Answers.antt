@@ -1,5 +1,7 @@
 use Rattle.std.proofs.Common.{List, [], ◌∷◌, ◌++◌, ap, ◌∙◌, rules}
-use Rattle.scsi_cdb.specs.declared.kind.Kind.{Kind}
+use Rattle.scsi_cdb.specs.declared.profile.CommandSet.{CommandSet}
+use Rattle.scsi_cdb.specs.declared.profile.Profile.{Profile}
+use Rattle.scsi_cdb.specs.Kinds.{commands_at}
 use Rattle.judgement.specs.Commands.{act_of, act_of_decoded}
 use Rattle.judgement.specs.Received.{ReceivedValue, command_in}
 use Rattle.logical_unit.specs.ActKinds.{act_kind_of, act_kind_if}
@@ -15,7 +17,8 @@ pub returns-clause-act : goal.returns-clause-act
 returns-clause-act g c =
     c.step-done.ensures.act ∙ ap (λ (r : ReceivedValue). act_kind_if c.step-done.result.numbers
     (act_kind_of (act_of_decoded (command_in r)))) c.new-received.ensures
-    ∙ ap (λ (k : Kind). act_kind_if c.step-done.result.numbers (act_kind_of (act_of k c.args.cdb.now c.args.bytes.now))) c.kind_at.ensures
+    ∙ ap (λ (k : CommandSet). act_kind_if c.step-done.result.numbers (act_kind_of (act_of k c.args.cdb.now c.args.bytes.now)))
+    (c.commands_at.ensures ∙ ap (λ (p : Profile). commands_at p c.args.lun) c.self.invariant.2)
 
 pub invariant_of-seat-2 : goal.invariant_of-seat-2
 invariant_of-seat-2 g c =

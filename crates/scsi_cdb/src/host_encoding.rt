@@ -1,0 +1,129 @@
+ghost use Rattle.std.specs.Prelude.{◌≡◌};
+ghost use Rattle.scsi_cdb.specs.HostCommands.{host_encoded};
+
+use crate::fields::{flag, page_byte, zero_padded};
+use crate::host_request::HostRequest;
+use crate::layout::*;
+
+/// A CDB of a command that only the hosts' profile has, then zeros.
+pub fn host_encode(request: &HostRequest) -> [u8; CDB_LENGTH]
+    ensures { result ≡ host_encoded request.now }
+{
+    match *request {
+        HostRequest::SendDiagnostic {
+            self_test_code,
+            self_test,
+            parameter_list_length,
+        } => {
+            let code = (self_test_code & SELF_TEST_CODE_BITS) << SELF_TEST_CODE_PLACE;
+            let [n1, n0] = parameter_list_length.to_be_bytes();
+            zero_padded(&[
+                SEND_DIAGNOSTIC,
+                code + flag(SELFTEST_BIT, self_test),
+                0,
+                n1,
+                n0,
+            ])
+        }
+        HostRequest::LogSelect {
+            parameter_code_reset,
+            save_parameters,
+            page_control,
+            page_code,
+            subpage_code,
+            parameter_list_length,
+        } => {
+            let flags = flag(PCR_BIT, parameter_code_reset) + flag(SP_BIT, save_parameters);
+            let page = page_byte(page_control, page_code);
+            let [n1, n0] = parameter_list_length.to_be_bytes();
+            zero_padded(&[LOG_SELECT, flags, page, subpage_code, 0, 0, 0, n1, n0])
+        }
+        HostRequest::LogSense {
+            parameter_pointer_control,
+            save_parameters,
+            page_control,
+            page_code,
+            subpage_code,
+            parameter_pointer,
+            allocation_length,
+        } => {
+            let flags = flag(PPC_BIT, parameter_pointer_control) + flag(SP_BIT, save_parameters);
+            let page = page_byte(page_control, page_code);
+            let [p1, p0] = parameter_pointer.to_be_bytes();
+            let [n1, n0] = allocation_length.to_be_bytes();
+            zero_padded(&[LOG_SENSE, flags, page, subpage_code, 0, p1, p0, n1, n0])
+        }
+        HostRequest::ModeSelect10 {
+            save_pages,
+            parameter_list_length,
+        } => {
+            let [n1, n0] = parameter_list_length.to_be_bytes();
+            zero_padded(&[
+                MODE_SELECT_10,
+                flag(SP_BIT, save_pages),
+                0,
+                0,
+                0,
+                0,
+                0,
+                n1,
+                n0,
+            ])
+        }
+        HostRequest::ModeSense10 {
+            disable_block_descriptors,
+            page_control,
+            page_code,
+            subpage_code,
+            allocation_length,
+        } => {
+            let flags = flag(DBD_BIT, disable_block_descriptors);
+            let page = page_byte(page_control, page_code);
+            let [n1, n0] = allocation_length.to_be_bytes();
+            zero_padded(&[MODE_SENSE_10, flags, page, subpage_code, 0, 0, 0, n1, n0])
+        }
+        HostRequest::ReportSupportedOperationCodes {
+            return_command_timeouts,
+            reporting_options,
+            requested_operation_code,
+            requested_service_action,
+            allocation_length,
+        } => {
+            let flags = flag(RCTD_BIT, return_command_timeouts)
+                + (reporting_options & REPORTING_OPTIONS_BITS);
+            let [a1, a0] = requested_service_action.to_be_bytes();
+            let [n3, n2, n1, n0] = allocation_length.to_be_bytes();
+            zero_padded(&[
+                MAINTENANCE_IN,
+                REPORT_SUPPORTED_OPERATION_CODES,
+                flags,
+                requested_operation_code,
+                a1,
+                a0,
+                n3,
+                n2,
+                n1,
+                n0,
+            ])
+        }
+        HostRequest::ReportSupportedTaskManagementFunctions {
+            return_extended_data,
+            allocation_length,
+        } => {
+            let flags = flag(REPD_BIT, return_extended_data);
+            let [n3, n2, n1, n0] = allocation_length.to_be_bytes();
+            zero_padded(&[
+                MAINTENANCE_IN,
+                REPORT_SUPPORTED_TASK_MANAGEMENT_FUNCTIONS,
+                flags,
+                0,
+                0,
+                0,
+                n3,
+                n2,
+                n1,
+                n0,
+            ])
+        }
+    }
+}
