@@ -1,0 +1,5 @@
+pub mod Places
+pub mod Pages
+pub mod Sizes
+pub mod Moves
+pub mod Forms
