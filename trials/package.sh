@@ -1,0 +1,136 @@
+#!/bin/sh
+# The package in a Debian of its own, without the toolchain: `apt` installs it in a root that debootstrap makes, where the service is started
+# by hand, as there is no systemd. A Linux guest of the same root (trials/package_guest.sh) writes and reads a tape there. Then the guest
+# installs the package itself, its systemd starts the service, and it writes a tape to that, reads it again after an upgrade to a second
+# package, and after the package was removed and purged the tape has to be there. Status 0 if all was so. As root, with debootstrap,
+# e2fsprogs and qemu-system-x86; with a folder as its argument the root is kept there for the next run, as it is after debootstrap.
+set -eu
+trials=$(cd "$(dirname "$0")" && pwd -P)
+top=${trials%/*}
+port=13260
+suite=bookworm
+mirror=http://deb.debian.org/debian
+packages=systemd-sysv,udev,dbus,kmod,initramfs-tools,linux-image-amd64,open-iscsi,mtx,mt-st,lsscsi,sg3-utils,iproute2
+clean="env -i PATH=/usr/sbin:/usr/bin:/sbin:/bin DEBIAN_FRONTEND=noninteractive LC_ALL=C.UTF-8"
+work=$(mktemp -d)
+kept=${1:-$work}
+root=$work/root
+guest=$work/guest
+server=
+trap '[ -z "$server" ] || kill "$server"; rm -rf "$work"' EXIT
+trap 'exit 1' HUP INT TERM
+
+say() {
+    echo "== $*"
+}
+
+# Runs a command in a root, without this machine's environment.
+in_root() {
+    of=$1
+    shift
+    # shellcheck disable=SC2086 # it is several words
+    chroot "$of" $clean "$@"
+}
+
+# A line of the unit, as the words of a shell.
+line_of_unit() {
+    sed -n "s/^$1=//p" "$root/usr/lib/systemd/system/vtl.service" |
+        sed -e 's,%t,/run,g' -e 's,%S,/var/lib,g' -e 's,%L,/var/log,g' -e 's/\$\$/$/g'
+}
+
+# The service as its unit starts it, in the root: with the options of its file, as its user, with its folders.
+start_by_hand() {
+    in_root "$root" install -d -m 750 -o vtl -g vtl /run/vtl /var/log/vtl
+    {
+        sed -n 's/^VTL_OPTIONS/export &/p' "$root/etc/default/vtl"
+        echo "umask $(line_of_unit UMask)"
+        echo "exec $(line_of_unit ExecStart)"
+    } >"$root/tmp/start"
+    # shellcheck disable=SC2086 # it is several words
+    chroot "$root" $clean setpriv --reuid vtl --regid vtl --init-groups sh /tmp/start >"$work/told" 2>&1 </dev/null &
+    server=$!
+    until grep -qs '^vtl: serving at ' "$work/told"; do
+        kill -0 $server 2>/dev/null || { cat "$work/told"; exit 1; }
+        sleep 0.1
+    done
+    cat "$work/told"
+}
+
+# Each of the programs above becomes the next, so this is the script that handles signals, as systemd has it for the main process.
+stop_by_hand() {
+    kill -TERM $server
+    wait $server
+    server=
+}
+
+# A second package: the same files, of a later version.
+make_second() {
+    dpkg-deb -R "$work/$first" "$work/second"
+    sed -i '/^Version: /s/$/.1/' "$work/second/DEBIAN/control"
+    echo "a second package" >>"$work/second/usr/lib/vtl/build"
+    (cd "$work/second" && find usr -type f -print0 | LC_ALL=C sort -z | xargs -0 md5sum >DEBIAN/md5sums)
+    dpkg-deb -Zgzip --root-owner-group -b "$work/second" "$work/second.deb" >/dev/null
+}
+
+say "two packages"
+first=$(cd "$work" && "$top/vtl" package)
+make_second
+ls "$work"/*.deb
+
+say "a root"
+if [ ! -e "$kept/root.tar" ]; then
+    debootstrap --variant=minbase --include=$packages $suite "$kept/fresh" $mirror >"$work/debootstrap" || { tail "$work/debootstrap"; exit 1; }
+    rm -f "$kept/fresh"/var/cache/apt/archives/*.deb
+    tar -c -f "$kept/root.tar" -C "$kept/fresh" .
+    rm -rf "$kept/fresh"
+fi
+mkdir "$root" "$guest"
+tar -x -f "$kept/root.tar" -C "$root"
+tar -x -f "$kept/root.tar" -C "$guest"
+for each in "$root" "$guest"; do
+    cp "$work/$first" "$each/var/tmp/vtl_1.deb"
+    cp "$work/second.deb" "$each/var/tmp/vtl_2.deb"
+done
+in_root "$root" sh -c 'command -v rt || command -v clang || command -v gcc' || echo "no toolchain is there"
+
+say "without systemd: installed, and started by hand"
+in_root "$root" apt-get install -y /var/tmp/vtl_1.deb
+in_root "$root" vtl --version
+ls -l "$root/var/lib/vtl" "$root/etc/vtl"
+sed -i "s,127.0.0.1:3260,127.0.0.1:$port=10.0.2.2:$port," "$root/etc/default/vtl"
+start_by_hand
+
+say "a guest"
+cp "$trials/package_guest.sh" "$guest/root/guest.sh"
+cat >"$guest/etc/systemd/system/trial.service" <<'END'
+[Unit]
+After=multi-user.target
+
+[Service]
+Type=oneshot
+ExecStart=/bin/sh -c 'exec /bin/sh /root/guest.sh >/dev/ttyS0 2>&1'
+ExecStopPost=/bin/systemctl poweroff --no-block
+
+[Install]
+WantedBy=graphical.target
+END
+printf '[Match]\nName=e*\n\n[Network]\nAddress=10.0.2.15/24\n' >"$guest/etc/systemd/network/guest.network"
+# A guest without KVM may be too slow for the five seconds in which an answer to a ping has to come.
+sed -i 's/^\(node.conn.0..timeo.noop_out_[a-z]* = \).*/\10/' "$guest/etc/iscsi/iscsid.conf"
+in_root "$guest" systemctl enable systemd-networkd.service trial.service
+in_root "$guest" systemctl set-default graphical.target
+mkfs.ext4 -q -d "$guest" "$work/disk" 4G
+timeout 3000 qemu-system-x86_64 -accel tcg -cpu max -m 2G -smp 2 -display none -serial stdio -monitor none -no-reboot \
+    -kernel "$guest/vmlinuz" -initrd "$guest/initrd.img" -append "root=/dev/vda rw console=ttyS0" \
+    -drive "file=$work/disk,if=virtio,format=raw" -nic user,model=virtio-net-pci </dev/null | stdbuf -oL tr -d '\r' | tee "$work/guest_log"
+
+say "the service that was started by hand: its end, its tapes and its records"
+stop_by_hand
+ls -l "$root/var/lib/vtl"
+in_root "$root" vtl media check /var/lib/vtl
+wc -l "$root/var/log/vtl/records"
+
+say "what came of it"
+grep -q '^guest: all is as it should be$' "$work/guest_log" || { echo "the guest failed"; exit 1; }
+[ "$(stat -c %s "$root/var/lib/vtl/VOL00001.tap")" -gt 1000000 ] || { echo "the tape is not there"; exit 1; }
+echo "all is as it should be"

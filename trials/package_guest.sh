@@ -1,0 +1,109 @@
+#!/bin/sh
+# What the guest of trials/package.sh does, as root under its systemd: it writes and reads a tape at the machine outside, then at a service of
+# its own, which it installs, upgrades, removes and purges.
+set -eu
+tapes=/var/lib/vtl
+trap '[ $? = 0 ] || { systemctl status vtl.service || true; journalctl -b -u vtl.service --no-pager | tail -30; dmesg | tail -20; echo "guest: failed"; }' EXIT
+
+say() {
+    echo "guest: $*"
+}
+
+# Logs in at a portal, and finds the changer and the drive that come.
+log_in() {
+    modprobe sg
+    iscsiadm -m discovery -t sendtargets -p "$1"
+    iscsiadm -m node -p "$1" --login
+    for _ in $(seq 600); do
+        changer=$(lsscsi -g | awk '$2 == "mediumx" { print $NF }')
+        [ -z "$changer" ] || [ ! -c /dev/nst0 ] || break
+        sleep 0.1
+    done
+    lsscsi -g
+    # A unit reports to each host what happened before it came.
+    for _ in 1 2 3 4; do sg_turs "$changer" >/dev/null 2>&1 || true; done
+}
+
+log_out() {
+    iscsiadm -m node --logout
+    iscsiadm -m node -o delete
+}
+
+# Puts the volume of a storage element into the first drive, and writes a backup to it, of files that nothing here changes.
+write_tape() {
+    mtx -f "$changer" load "$1" 0
+    tar -c -f /dev/nst0 -C / usr/lib/udev usr/sbin
+}
+
+read_tape() {
+    mt -f /dev/nst0 rewind
+    (cd / && tar -d -f /dev/nst0)
+    say "the tape has what was written"
+}
+
+unload_tape() {
+    mt -f /dev/nst0 offline
+    mtx -f "$changer" unload "$1" 0
+}
+
+say "at the machine outside"
+log_in 10.0.2.2:13260
+mtx -f "$changer" status
+write_tape 1
+read_tape
+unload_tape 1
+log_out
+
+say "the package, with systemd"
+apt-get install -y /var/tmp/vtl_1.deb
+vtl --version
+systemctl is-enabled vtl.service
+systemctl is-active vtl.service
+systemd-analyze verify vtl.service
+systemd-analyze security vtl.service --no-pager | tail -1
+journalctl -b -u vtl.service --no-pager -o cat
+log_in 127.0.0.1:3260
+mtx -f "$changer" status
+write_tape 1
+read_tape
+log_out
+
+say "an upgrade"
+before=$(sha256sum $tapes/VOL00001.tap)
+started=$(systemctl show -p MainPID vtl.service)
+apt-get install -y /var/tmp/vtl_2.deb
+vtl --version
+systemctl is-active vtl.service
+[ "$started" != "$(systemctl show -p MainPID vtl.service)" ]
+[ "$before" = "$(sha256sum $tapes/VOL00001.tap)" ]
+log_in 127.0.0.1:3260
+read_tape
+unload_tape 1
+log_out
+ls -l /run/vtl /var/log/vtl /etc/vtl $tapes
+
+say "a restart by hand, and a stop"
+systemctl restart vtl.service
+systemctl stop vtl.service
+[ "$(systemctl show -p ExecMainStatus vtl.service)" = ExecMainStatus=0 ]
+systemctl start vtl.service
+
+say "removed and purged"
+before=$(cd $tapes && sha256sum ./*)
+apt-get remove -y vtl
+[ "$(systemctl is-active vtl.service)" != active ]
+[ ! -e /usr/bin/vtl ] && [ -e /etc/vtl/chap ] && [ -e /etc/default/vtl ]
+[ "$before" = "$(cd $tapes && sha256sum ./*)" ] || say "the tapes changed when the service ended"
+before=$(cd $tapes && sha256sum ./*)
+apt-get purge -y vtl
+[ ! -e /etc/vtl ] && [ ! -e /etc/default/vtl ] && [ ! -e /var/log/vtl ]
+[ "$before" = "$(cd $tapes && sha256sum ./*)" ]
+ls -l $tapes
+
+say "installed again, with the same tapes"
+apt-get install -y /var/tmp/vtl_2.deb
+log_in 127.0.0.1:3260
+mtx -f "$changer" load 1 0
+read_tape
+log_out
+say "all is as it should be"
