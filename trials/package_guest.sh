@@ -59,7 +59,7 @@ apt-get install -y /var/tmp/vtl_1.deb
 vtl --version
 systemctl is-enabled vtl.service
 systemctl is-active vtl.service
-systemd-analyze verify vtl.service
+systemd-analyze verify --man=no vtl.service
 systemd-analyze security vtl.service --no-pager | tail -1
 journalctl -b -u vtl.service --no-pager -o cat
 log_in 127.0.0.1:3260
