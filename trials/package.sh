@@ -115,6 +115,8 @@ ExecStopPost=/bin/systemctl poweroff --no-block
 WantedBy=graphical.target
 END
 printf '[Match]\nName=e*\n\n[Network]\nAddress=10.0.2.15/24\n' >"$guest/etc/systemd/network/guest.network"
+# A login prompt on the console would end what is said there.
+ln -s /dev/null "$guest/etc/systemd/system/serial-getty@ttyS0.service"
 # A guest without KVM may be too slow for the five seconds in which an answer to a ping has to come.
 sed -i 's/^\(node.conn.0..timeo.noop_out_[a-z]* = \).*/\10/' "$guest/etc/iscsi/iscsid.conf"
 in_root "$guest" systemctl enable systemd-networkd.service trial.service
