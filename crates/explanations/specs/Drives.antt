@@ -1,6 +1,6 @@
--- The data of READ POSITION and MODE SENSE in words (SSC-4, "READ POSITION command"; SPC-4, "Mode parameter list formats").
+-- The data of READ POSITION and both lengths of MODE SENSE in words (SSC-4, "READ POSITION command"; SPC-4, "Mode parameter list formats").
 use Rattle.std.specs.Prelude.{ℕ, ◌+◌, ◌&&◌, nat_le, List, [], ◌++◌, length, codes, if◌then◌else◌}
-use Rattle.scsi_cdb.specs.Bits.{bit, byte, three_bytes, four_bytes}
+use Rattle.scsi_cdb.specs.Bits.{bit, byte, two_bytes, three_bytes, four_bytes}
 use Rattle.explanations.specs.Words.{coded_text, cut, number_text}
 
 -- BOP
@@ -16,20 +16,26 @@ abbrev pub position_text : List ℕ → List ℕ
 position_text bytes = beginning_text bytes ++ object_text bytes ++ cut 20 bytes
 
 -- MEDIUM TYPE
-unfoldable pub medium_text : List ℕ → List ℕ
-medium_text bytes = if nat_le 2 (length bytes) then coded_text (codes ", medium type ") (byte bytes 1) else []
+unfoldable pub medium_text : (place : ℕ) → List ℕ → List ℕ
+medium_text place bytes = if nat_le (place + 1) (length bytes) then coded_text (codes ", medium type ") (byte bytes place) else []
 
 -- WP
-unfoldable pub protection_text : List ℕ → List ℕ
-protection_text bytes = if bit bytes 2 7 then codes ", write protected" else []
+unfoldable pub protection_text : (place : ℕ) → List ℕ → List ℕ
+protection_text place bytes = if bit bytes place 7 then codes ", write protected" else []
 
--- the density code and the block length, where there is a block descriptor and it is whole
-unfoldable pub block_descriptor_text : List ℕ → List ℕ
-block_descriptor_text bytes =
-    if nat_le 8 (byte bytes 3) && nat_le 12 (length bytes) then
-    coded_text (codes ", density ") (byte bytes 4) ++ number_text (codes ", block length ") (three_bytes bytes 9)
+-- the density code and the block length, where the header says that there is a block descriptor behind it, and it is whole
+unfoldable pub block_descriptor_text : (told header : ℕ) → List ℕ → List ℕ
+block_descriptor_text told header bytes =
+    if nat_le 8 told && nat_le (header + 8) (length bytes) then
+    coded_text (codes ", density ") (byte bytes header) ++ number_text (codes ", block length ") (three_bytes bytes (header + 5))
     else []
 
 -- MODE SENSE(6): byte 0 is how many bytes follow it
 abbrev pub mode_text : List ℕ → List ℕ
-mode_text bytes = medium_text bytes ++ protection_text bytes ++ block_descriptor_text bytes ++ cut (1 + byte bytes 0) bytes
+mode_text bytes =
+    medium_text 1 bytes ++ protection_text 2 bytes ++ block_descriptor_text (byte bytes 3) 4 bytes ++ cut (1 + byte bytes 0) bytes
+
+-- MODE SENSE(10): so are bytes 0 and 1
+abbrev pub long_mode_text : List ℕ → List ℕ
+long_mode_text bytes =
+    medium_text 2 bytes ++ protection_text 3 bytes ++ block_descriptor_text (two_bytes bytes 6) 8 bytes ++ cut (2 + two_bytes bytes 0) bytes

@@ -17,9 +17,13 @@ element_type_text type =
 unfoldable pub tag_text : Bool → List ℕ → List ℕ
 tag_text tags descriptor = if tags then codes " " ++ quoted (take 32 (drop 12 descriptor)) else []
 
+-- SVALID, and the address of the element that the volume came from, in bytes 10 and 11
+unfoldable pub source_text : List ℕ → List ℕ
+source_text descriptor = if bit descriptor 9 7 then codes " from " ++ encode_lower (take 2 (drop 10 descriptor)) ++ codes "h" else []
+
 -- FULL
 unfoldable pub fullness_text : Bool → List ℕ → List ℕ
-fullness_text tags descriptor = if bit descriptor 2 0 then codes " full" ++ tag_text tags descriptor else codes " empty"
+fullness_text tags descriptor = if bit descriptor 2 0 then codes " full" ++ tag_text tags descriptor ++ source_text descriptor else codes " empty"
 
 -- a descriptor: the address, in bytes 0 and 1, the type, and whether it is full
 unfoldable pub element_text : (type : ℕ) → (tags : Bool) → List ℕ → List ℕ

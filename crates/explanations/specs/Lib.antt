@@ -6,7 +6,10 @@ pub mod Drives
 pub mod Reservations
 pub mod ElementWords
 pub mod PieceWords
+pub mod CommandList
+pub mod Commands
 pub mod Contents
 pub mod Explanation
 pub mod Rows
 pub mod DataRows
+pub mod HostRows

@@ -1,8 +1,8 @@
 ghost use Rattle.std.specs.Prelude.{◌≡◌};
-ghost use Rattle.explanations.specs.Contents.{contents_of, contents_of_action, contents_of_request};
+ghost use Rattle.explanations.specs.Contents.{contents_of, contents_of_action, contents_of_host_request, contents_of_request};
 
 use crate::reservations::ReservationList;
-use scsi_cdb::{CommandSet, InServiceAction, Request, decode};
+use scsi_cdb::{CommandSet, HostRequest, InServiceAction, Request, decode};
 
 /// What the data of a reply are.
 #[derive(Clone, Copy)]
@@ -13,6 +13,16 @@ pub enum Contents {
     VitalProductData,
     /// Of MODE SENSE(6).
     ModeParameters,
+    /// Of MODE SENSE(10).
+    LongModeParameters,
+    /// Of LOG SENSE.
+    LogPage,
+    /// Of REPORT SUPPORTED OPERATION CODES, where all commands are asked for: each with its timeouts, where those are.
+    Commands { timeouts: bool },
+    /// Of the same, where one is.
+    Command,
+    /// Of REPORT SUPPORTED TASK MANAGEMENT FUNCTIONS.
+    TaskManagement,
     /// Of READ POSITION.
     Position,
     /// Of PERSISTENT RESERVE IN.
@@ -64,8 +74,34 @@ fn contents_of_request(request: Request) -> Contents
         | Request::PreventAllowMediumRemoval { .. }
         | Request::Locate { .. }
         | Request::PersistentReserveOut { .. }
-        | Request::MoveMedium { .. }
-        | Request::Host(_) => Contents::Other,
+        | Request::MoveMedium { .. } => Contents::Other,
+        Request::Host(request) => contents_of_host_request(request),
+    }
+}
+
+fn contents_of_host_request(request: HostRequest) -> Contents
+    ensures { result ≡ contents_of_host_request request }
+{
+    match request {
+        HostRequest::ModeSense10 { .. } => Contents::LongModeParameters,
+        HostRequest::LogSense { .. } => Contents::LogPage,
+        HostRequest::ReportSupportedOperationCodes {
+            return_command_timeouts,
+            reporting_options,
+            ..
+        } => {
+            if reporting_options == 0 {
+                Contents::Commands {
+                    timeouts: return_command_timeouts,
+                }
+            } else {
+                Contents::Command
+            }
+        }
+        HostRequest::ReportSupportedTaskManagementFunctions { .. } => Contents::TaskManagement,
+        HostRequest::SendDiagnostic { .. }
+        | HostRequest::LogSelect { .. }
+        | HostRequest::ModeSelect10 { .. } => Contents::Other,
     }
 }
 

@@ -1,9 +1,9 @@
-//! The data of READ POSITION and MODE SENSE in words (SSC-4, "READ POSITION command"; SPC-4, "Mode parameter list
+//! The data of READ POSITION and of both lengths of MODE SENSE in words (SSC-4, "READ POSITION command"; SPC-4, "Mode parameter list
 //! formats").
-ghost use Rattle.std.specs.Prelude.{◌≡◌, ◌++◌, OnOk};
-ghost use Rattle.explanations.specs.Drives.{beginning_text, block_descriptor_text, medium_text, mode_text, object_text, position_text, protection_text};
+ghost use Rattle.std.specs.Prelude.{◌≡◌, ◌++◌, ◌<◌, ◌^◌, OnOk};
+ghost use Rattle.explanations.specs.Drives.{beginning_text, block_descriptor_text, long_mode_text, medium_text, mode_text, object_text, position_text, protection_text};
 
-use crate::fields::{bit_at, byte_at, u24_at, u32_at};
+use crate::fields::{bit_at, byte_at, u16_at, u24_at, u32_at};
 use crate::layout::*;
 use crate::words::{write_coded, write_cut, write_number, write_words};
 use std::alloc::AllocError;
@@ -42,41 +42,59 @@ fn write_object(line: &mut Vec<u8>, bytes: &[u8]) -> Result<(), AllocError>
 pub fn write_mode(line: &mut Vec<u8>, bytes: &[u8]) -> Result<(), AllocError>
     ensures { OnOk result (line.new.items ≡ line.old.items ++ mode_text bytes.now) }
 {
-    write_medium(line, bytes)?;
-    write_protection(line, bytes)?;
-    write_block_descriptor(line, bytes)?;
+    write_medium(line, MEDIUM_TYPE, bytes)?;
+    write_protection(line, DEVICE_SPECIFIC_PARAMETER, bytes)?;
+    let told = byte_at(bytes, BLOCK_DESCRIPTOR_LENGTH);
+    write_block_descriptor(line, u16::from(told), MODE_HEADER_LENGTH, bytes)?;
     write_cut(line, bytes, 1 + u64::from(byte_at(bytes, MODE_DATA_LENGTH)))
 }
 
-#[tactic(auto, unfolding(crate::specs::Drives::medium_text))]
-fn write_medium(line: &mut Vec<u8>, bytes: &[u8]) -> Result<(), AllocError>
-    ensures { OnOk result (line.new.items ≡ line.old.items ++ medium_text bytes.now) }
+/// Adds the same of MODE SENSE(10) data.
+pub fn write_long_mode(line: &mut Vec<u8>, bytes: &[u8]) -> Result<(), AllocError>
+    ensures { OnOk result (line.new.items ≡ line.old.items ++ long_mode_text bytes.now) }
 {
-    if MEDIUM_TYPE < bytes.len() {
-        write_coded(line, ", medium type ", bytes[MEDIUM_TYPE])?;
+    write_medium(line, LONG_MEDIUM_TYPE, bytes)?;
+    write_protection(line, LONG_DEVICE_SPECIFIC_PARAMETER, bytes)?;
+    let told = u16_at(bytes, LONG_BLOCK_DESCRIPTOR_LENGTH);
+    write_block_descriptor(line, told, LONG_MODE_HEADER_LENGTH, bytes)?;
+    write_cut(line, bytes, 2 + u64::from(u16_at(bytes, MODE_DATA_LENGTH)))
+}
+
+#[tactic(auto, unfolding(crate::specs::Drives::medium_text))]
+fn write_medium(line: &mut Vec<u8>, place: usize, bytes: &[u8]) -> Result<(), AllocError>
+    requires { place < 2 ^ 16 }
+    ensures { OnOk result (line.new.items ≡ line.old.items ++ medium_text place bytes.now) }
+{
+    if place < bytes.len() {
+        write_coded(line, ", medium type ", bytes[place])?;
     }
     Ok(())
 }
 
 #[tactic(auto, unfolding(crate::specs::Drives::protection_text))]
-fn write_protection(line: &mut Vec<u8>, bytes: &[u8]) -> Result<(), AllocError>
-    ensures { OnOk result (line.new.items ≡ line.old.items ++ protection_text bytes.now) }
+fn write_protection(line: &mut Vec<u8>, place: usize, bytes: &[u8]) -> Result<(), AllocError>
+    ensures { OnOk result (line.new.items ≡ line.old.items ++ protection_text place bytes.now) }
 {
-    if bit_at(bytes, DEVICE_SPECIFIC_PARAMETER, WP_BIT) {
+    if bit_at(bytes, place, WP_BIT) {
         write_words(line, ", write protected")?;
     }
     Ok(())
 }
 
-/// Adds the density code and the block length, where there is a block descriptor and it is whole.
+/// Adds the density code and the block length, where the header says that there is a block descriptor behind it, and it is whole.
 #[tactic(auto, unfolding(crate::specs::Drives::block_descriptor_text))]
-fn write_block_descriptor(line: &mut Vec<u8>, bytes: &[u8]) -> Result<(), AllocError>
-    ensures { OnOk result (line.new.items ≡ line.old.items ++ block_descriptor_text bytes.now) }
+fn write_block_descriptor(
+    line: &mut Vec<u8>,
+    told: u16,
+    header: usize,
+    bytes: &[u8],
+) -> Result<(), AllocError>
+    requires { header < 2 ^ 15 }
+    ensures { OnOk result (line.new.items ≡ line.old.items ++ block_descriptor_text told header bytes.now) }
 {
-    let descriptor_length = byte_at(bytes, BLOCK_DESCRIPTOR_LENGTH);
-    if BLOCK_DESCRIPTOR <= descriptor_length && BLOCK_DESCRIPTOR_END <= bytes.len() {
-        write_coded(line, ", density ", bytes[DENSITY_CODE])?;
-        let block_length = u24_at(bytes, BLOCK_LENGTH);
+    if BLOCK_DESCRIPTOR <= told && header + BLOCK_DESCRIPTOR_SIZE <= bytes.len() {
+        write_coded(line, ", density ", bytes[header])?;
+        let block_length = u24_at(bytes, header + BLOCK_LENGTH);
         write_number(line, ", block length ", u64::from(block_length))?;
     }
     Ok(())

@@ -1,6 +1,6 @@
 //! The data of READ ELEMENT STATUS in words (SMC-3, "READ ELEMENT STATUS command").
 ghost use Rattle.std.specs.Prelude.{◌≡◌, ◌++◌, OnOk};
-ghost use Rattle.explanations.specs.ElementWords.{element_text, element_type_text, elements_in, elements_text, fullness_text, page_text, pages_in, tag_text};
+ghost use Rattle.explanations.specs.ElementWords.{element_text, element_type_text, elements_in, elements_text, fullness_text, page_text, pages_in, source_text, tag_text};
 
 use crate::fields::{behind, bit_at, byte_at, part, u16_at, u24_at};
 use crate::hex_text::write_hex;
@@ -82,7 +82,7 @@ pub fn write_element(
     write_fullness(line, tags, descriptor)
 }
 
-/// Adds whether an element is full, with the volume tag where there is one.
+/// Adds whether an element is full, with the volume tag where there is one, and where the volume came from, where that is known.
 #[tactic(auto, unfolding(crate::specs::ElementWords::fullness_text))]
 fn write_fullness(line: &mut Vec<u8>, tags: bool, descriptor: &[u8]) -> Result<(), AllocError>
     ensures { OnOk result (line.new.items ≡ line.old.items ++ fullness_text tags descriptor.now) }
@@ -91,7 +91,20 @@ fn write_fullness(line: &mut Vec<u8>, tags: bool, descriptor: &[u8]) -> Result<(
         return write_words(line, " empty");
     }
     write_words(line, " full")?;
-    write_tag(line, tags, descriptor)
+    write_tag(line, tags, descriptor)?;
+    write_source(line, descriptor)
+}
+
+#[tactic(auto, unfolding(crate::specs::ElementWords::source_text))]
+fn write_source(line: &mut Vec<u8>, descriptor: &[u8]) -> Result<(), AllocError>
+    ensures { OnOk result (line.new.items ≡ line.old.items ++ source_text descriptor.now) }
+{
+    if !bit_at(descriptor, SOURCE_FLAGS, SVALID_BIT) {
+        return Ok(());
+    }
+    write_words(line, " from ")?;
+    write_hex(line, part(descriptor, SOURCE, ELEMENT_ADDRESS_LENGTH))?;
+    write_words(line, "h")
 }
 
 #[tactic(auto, unfolding(crate::specs::ElementWords::element_type_text))]

@@ -2,8 +2,9 @@ ghost use Rattle.std.specs.Prelude.{◌≡◌, ◌++◌, OnOk};
 ghost use Rattle.explanations.specs.Explanation.{contents_text, explanation, payload_text};
 ghost use Rattle.explanations.specs.Senses.{sense_text_in};
 
+use crate::commands::{write_commands, write_log, write_one_command, write_task_management};
 use crate::contents::{Contents, contents_of};
-use crate::drives::{write_mode, write_position};
+use crate::drives::{write_long_mode, write_mode, write_position};
 use crate::elements::write_elements;
 use crate::reservations::write_reservations;
 use crate::senses::write_sense;
@@ -71,6 +72,11 @@ fn write_contents(line: &mut Vec<u8>, contents: Contents, bytes: &[u8]) -> Resul
         Contents::StandardInquiry => write_inquiry(line, bytes),
         Contents::VitalProductData => write_page(line, bytes),
         Contents::ModeParameters => write_mode(line, bytes),
+        Contents::LongModeParameters => write_long_mode(line, bytes),
+        Contents::LogPage => write_log(line, bytes),
+        Contents::Commands { timeouts } => write_commands(line, timeouts, bytes),
+        Contents::Command => write_one_command(line, bytes),
+        Contents::TaskManagement => write_task_management(line, bytes),
         Contents::Position => write_position(line, bytes),
         Contents::Reservations(list) => write_reservations(line, list, bytes),
         Contents::LogicalUnits => write_luns(line, bytes),

@@ -97,7 +97,7 @@ pub const LOGICAL_OBJECT_NUMBER_LENGTH: usize = 4;
 
 pub const POSITION_LENGTH: u64 = 20;
 
-// MODE SENSE(6) (SPC-4, "Mode parameter list formats"; SSC-4, "Mode parameters").
+// MODE SENSE(6), and with other places MODE SENSE(10) (SPC-4, "Mode parameter list formats"; SSC-4, "Mode parameters").
 pub const MODE_DATA_LENGTH: usize = 0;
 
 pub const MEDIUM_TYPE: usize = 1;
@@ -108,13 +108,68 @@ pub const WP_BIT: u8 = 7;
 
 pub const BLOCK_DESCRIPTOR_LENGTH: usize = 3;
 
-pub const BLOCK_DESCRIPTOR: u8 = 8;
+pub const MODE_HEADER_LENGTH: usize = 4;
 
-pub const BLOCK_DESCRIPTOR_END: usize = 12;
+pub const LONG_MEDIUM_TYPE: usize = 2;
 
-pub const DENSITY_CODE: usize = 4;
+pub const LONG_DEVICE_SPECIFIC_PARAMETER: usize = 3;
 
-pub const BLOCK_LENGTH: usize = 9;
+pub const LONG_BLOCK_DESCRIPTOR_LENGTH: usize = 6;
+
+pub const LONG_MODE_HEADER_LENGTH: usize = 8;
+
+/// A block descriptor, which begins with the density code.
+pub const BLOCK_DESCRIPTOR: u16 = 8;
+
+pub const BLOCK_DESCRIPTOR_SIZE: usize = 8;
+
+pub const BLOCK_LENGTH: usize = 5;
+
+// LOG SENSE (SPC-4, "Log page structure and log parameter structure").
+pub const LOG_PAGE_BITS: u8 = 0x3F;
+
+pub const SUBPAGE_FORMAT_BIT: u8 = 6;
+
+// REPORT SUPPORTED OPERATION CODES (SPC-4, "REPORT SUPPORTED OPERATION CODES command").
+pub const COMMAND_DATA_LENGTH: usize = 0;
+
+pub const COMMAND_DATA_HEADER: usize = 4;
+
+pub const COMMAND_LENGTH: usize = 8;
+
+/// A command descriptor with a command timeouts descriptor.
+pub const TIMED_COMMAND_LENGTH: usize = 20;
+
+pub const SERVICE_ACTION: usize = 2;
+
+pub const SERVICE_ACTION_LENGTH: usize = 2;
+
+pub const COMMAND_FLAGS: usize = 5;
+
+pub const SERVICE_ACTION_VALID_BIT: u8 = 0;
+
+pub const SUPPORT: usize = 1;
+
+pub const SUPPORT_BITS: u8 = 0x07;
+
+pub const NOT_A_COMMAND: u8 = 1;
+
+pub const AS_THE_STANDARD: u8 = 3;
+
+pub const TIMEOUTS_BIT: u8 = 7;
+
+pub const USAGE_LENGTH: usize = 2;
+
+pub const USAGE: usize = 4;
+
+pub const TIMEOUTS_LENGTH: u64 = 12;
+
+// REPORT SUPPORTED TASK MANAGEMENT FUNCTIONS (SPC-4, the command's clause).
+pub const FUNCTIONS: usize = 0;
+
+pub const FUNCTIONS_LENGTH: usize = 4;
+
+pub const ADDITIONAL_FUNCTIONS_LENGTH: usize = 3;
 
 // READ ELEMENT STATUS (SMC-3, "READ ELEMENT STATUS command"): bytes that follow the header, or a page's.
 pub const BYTES_THAT_FOLLOW: usize = 5;
@@ -132,6 +187,12 @@ pub const ELEMENT_ADDRESS_LENGTH: usize = 2;
 pub const ELEMENT_FLAGS: usize = 2;
 
 pub const FULL_BIT: u8 = 0;
+
+pub const SOURCE_FLAGS: usize = 9;
+
+pub const SVALID_BIT: u8 = 7;
+
+pub const SOURCE: usize = 10;
 
 pub const VOLUME_TAG: usize = 12;
 

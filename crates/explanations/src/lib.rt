@@ -2,6 +2,7 @@
 #![tactic(auto)]
 
 mod codes;
+mod commands;
 mod contents;
 mod drives;
 mod elements;

@@ -3,6 +3,7 @@ ghost use Rattle.std.specs.Prelude.{◌≡◌, ◌++◌, ◌<◌, OnOk};
 ghost use Rattle.explanations.specs.Pieces.{whole_pieces};
 ghost use Rattle.explanations.specs.PieceWords.{piece_text};
 
+use crate::commands::write_command;
 use crate::elements::write_element;
 use crate::reservations::{write_key, write_registration};
 use crate::units::write_lun;
@@ -19,6 +20,8 @@ pub enum Piece {
     LogicalUnit,
     /// An element status descriptor, with a volume tag where there are tags.
     Element { element_type: u8, tags: bool },
+    /// A command descriptor.
+    Command,
 }
 
 /// Adds the words of each whole piece of a list.
@@ -48,5 +51,6 @@ fn write_piece(line: &mut Vec<u8>, kind: Piece, piece: &[u8]) -> Result<(), Allo
         Piece::Registration => write_registration(line, piece),
         Piece::LogicalUnit => write_lun(line, piece),
         Piece::Element { element_type, tags } => write_element(line, element_type, tags, piece),
+        Piece::Command => write_command(line, piece),
     }
 }

@@ -117,8 +117,9 @@ fn write_page_code(line: &mut Vec<u8>, bytes: &[u8]) -> Result<(), AllocError>
     Ok(())
 }
 
+/// Adds the length of a page with a header of four bytes, of vital product data or a log page.
 #[tactic(auto, unfolding(crate::specs::Units::page_length_text))]
-fn write_page_length(line: &mut Vec<u8>, bytes: &[u8]) -> Result<(), AllocError>
+pub fn write_page_length(line: &mut Vec<u8>, bytes: &[u8]) -> Result<(), AllocError>
     ensures { OnOk result (line.new.items ≡ line.old.items ++ page_length_text bytes.now) }
 {
     if bytes.len() < PAGE_HEADER_LENGTH {

@@ -2,8 +2,10 @@ use Rattle.std.proofs.Common.{refl}
 use Rattle.std.specs.Fmt.{digits}
 use Rattle.hex.specs.Hex.{encode_with}
 use Rattle.scsi_cdb.specs.Commands.{command_of}
+use Rattle.explanations.specs.CommandList.{commands_text}
+use Rattle.explanations.specs.Commands.{action_text, command_text, function_text, log_code_text, log_subpage_text, one_command_text, support_text}
 use Rattle.explanations.specs.Drives.{beginning_text, block_descriptor_text, medium_text, object_text, protection_text}
-use Rattle.explanations.specs.ElementWords.{element_text, element_type_text, elements_in, elements_text, fullness_text, page_text, tag_text}
+use Rattle.explanations.specs.ElementWords.{element_text, element_type_text, elements_in, elements_text, fullness_text, page_text, source_text, tag_text}
 use Rattle.explanations.specs.Explanation.{explanation}
 use Rattle.explanations.specs.Reservations.{generation_text, listed, registration_text}
 use Rattle.explanations.specs.Senses.{condition_with, key_with, mark_text, sense_text}
@@ -87,6 +89,31 @@ returns-clause-drives c = record {
 }
 
 pub returns-clause-elements : goal.returns-clause-elements
-unfolding explanation command_of elements_text elements_in page_text element_text element_type_text fullness_text tag_text quoted
+unfolding explanation command_of elements_text elements_in page_text element_text element_type_text fullness_text tag_text source_text quoted
     encode_with coded_text cut
 returns-clause-elements c = record { elements = refl; tags = refl; portal = refl; none = refl; elements_cut = refl }
+
+pub returns-clause-hosts : goal.returns-clause-hosts
+unfolding explanation command_of medium_text protection_text block_descriptor_text log_code_text log_subpage_text page_length_text commands_text
+    command_text action_text one_command_text support_text function_text elements_text elements_in page_text element_text element_type_text
+    fullness_text tag_text source_text encode_with digits coded_text number_text count_text cut
+returns-clause-hosts c = record {
+  block_length = refl;
+  mode_cut = refl;
+  mode_of_changer = refl;
+  alerts_cut = refl;
+  subpages = refl;
+  log_header_cut = refl;
+  two_commands = refl;
+  commands_with_timeouts = refl;
+  no_commands = refl;
+  supported = refl;
+  supported_with_timeouts = refl;
+  not_supported = refl;
+  another_way = refl;
+  functions = refl;
+  other_functions = refl;
+  functions_cut = refl;
+  of_hosts_alone = refl;
+  source = refl;
+}
