@@ -8,9 +8,11 @@ ghost use Rattle.device_server.specs.Failures.{is_data_transfer};
 ghost use Rattle.device_server.specs.Volumes.{is_move};
 
 use crate::faults::{move_condition, put_fault, take_fault};
+use crate::host_changer::host_step;
 use crate::mode::mode_data;
-use device_server::{BadPlace, DeviceServer, Outcome, Payload, PutFault, TakeFault};
+use device_server::{BadPlace, DeviceServer, HostChanger, Outcome, Payload, PutFault, TakeFault};
 use element_map::Elements;
+use inquiry_data::UnitIdentity;
 use scsi_cdb::{Kind, Profile, Request};
 use scsi_sense::Condition;
 use std::alloc::{AllocError, Global};
@@ -20,50 +22,76 @@ use tape_medium::{FIRST_DATA_TRANSFER, Volume, VolumeTag};
 /// A medium changer. Volumes that lie in drives are the drives' own; of them it has the tags.
 #[derive(Drop)]
 pub struct Changer {
-    elements: Elements,
+    pub(crate) elements: Elements,
+    /// What it keeps besides, if it is of the hosts' profile.
+    pub(crate) hosts: Option<HostChanger>,
 }
 
 impl Model for Changer {
-    ghost use Rattle.tape_medium.specs.Elements.{Elements};
+    ghost use Rattle.device_server.specs.HostChanger.{ChangerView};
 
-    ghost Value = { Elements };
+    ghost Value = { ChangerView };
 
-    ghost view = { λ c. c.elements };
+    ghost view = { λ c. record { elements = c.elements; hosts = c.hosts } };
 }
 
 impl Changer {
-    /// A changer with these elements, and with what they hold.
+    ghost use Rattle.std.specs.Option.{option_map};
+    ghost use Rattle.device_server.specs.HostChanger.{spec_changer, host_view};
+
+    /// A changer of the default profile with these elements, and with what they hold.
     pub fn new(elements: Elements) -> Changer
-        ensures { result ≡ elements }
+        ensures { result ≡ spec_changer elements }
     {
-        Changer { elements }
+        Changer {
+            elements,
+            hosts: None,
+        }
+    }
+
+    /// A changer of the hosts' profile, which is a unit and knows from where the volumes of these elements came.
+    pub fn for_hosts(elements: Elements, hosts: HostChanger) -> Changer
+        ensures { result ≡ host_view elements hosts }
+    {
+        Changer {
+            elements,
+            hosts: Some(hosts),
+        }
     }
 
     /// The elements, and what they hold.
     pub fn elements(&self) -> &Elements
-        ensures { result.now ≡ self.now }
+        ensures { result.now ≡ self.now.elements }
     {
         &self.elements
+    }
+
+    /// What it keeps besides, if it is of the hosts' profile.
+    pub fn hosts(&self) -> Option<&HostChanger>
+        ensures { option_map (λ hosts. hosts.now) result ≡ self.now.hosts }
+    {
+        self.hosts.as_ref()
     }
 
     /// From now on the first `objects` objects of the volume in a storage or import/export element count as unchanged, or all
     /// where it has fewer. Without one nothing changes.
     pub fn settle(&mut self, address: u16, objects: u32)
-        ensures { self.new ≡ settles self.old address objects }
+        ensures { self.new ≡ record self.old { elements = settles self.old.elements address objects } }
     {
         self.elements.settle(address, objects);
     }
 
     /// Whether an address is that of a data transfer element, which is a drive's.
     fn is_data_transfer(&self, address: u16) -> bool
-        ensures { result ≡ is_data_transfer (element_at self.now address) }
+        ensures { result ≡ is_data_transfer (element_at self.now.elements address) }
     {
         address >= FIRST_DATA_TRANSFER && address - FIRST_DATA_TRANSFER < self.elements.drives()
     }
 
-    /// Carries out a command whose fields aren't refused.
+    /// Carries out a command whose fields aren't refused, as a changer of the default profile.
     fn step(&mut self, alloc: Global, request: &Request) -> Result<Outcome, AllocError>
-        ensures ok { IfOk result (λ outcome. changer_step self.old request.now ≡ (self.new, outcome)) }
+        ensures ok { IfOk result (λ outcome. changer_step self.old.elements request.now ≡ (self.new.elements, outcome)) }
+        ensures hosts { self.new.hosts ≡ self.old.hosts }
         ensures err { OnErr result (self.new ≡ self.old) }
         ensures want { OnErr result (is_move request.now ≡ false) }
     {
@@ -134,7 +162,8 @@ impl Changer {
         source: u16,
         destination: u16,
     ) -> Outcome
-        ensures { carried self.old source destination (move_refusal self.old transport source destination) ≡ (self.new, result) }
+        ensures carried { carried self.old.elements source destination (move_refusal self.old.elements transport source destination) ≡ (self.new.elements, result) }
+        ensures hosts { self.new.hosts ≡ self.old.hosts }
     {
         if let Some(fault) = self.elements.move_refusal(transport, source, destination) {
             return Outcome::check(alloc, move_condition(fault));
@@ -157,7 +186,17 @@ impl DeviceServer for Changer {
 
     #[tactic(auto, unfolding(device_server::specs::View::profile_of))]
     fn profile(&self) -> Profile {
-        Profile::Spec
+        match &self.hosts {
+            None => Profile::Spec,
+            Some(_) => Profile::Hosts,
+        }
+    }
+
+    fn identity(&self) -> Option<UnitIdentity> {
+        match &self.hosts {
+            None => None,
+            Some(hosts) => Some(hosts.identity),
+        }
     }
 
     fn drives(&self) -> u16 {
@@ -191,9 +230,12 @@ impl DeviceServer for Changer {
         &mut self,
         alloc: Global,
         request: &Request,
-        _bytes: &[u8],
+        bytes: &[u8],
     ) -> Result<Outcome, AllocError> {
-        self.step(alloc, request)
+        match &mut self.hosts {
+            None => self.step(alloc, request),
+            Some(hosts) => host_step(alloc, &mut self.elements, hosts, request, bytes),
+        }
     }
 
     fn take_volume(&mut self, place: u16) -> Result<Volume, TakeFault> {
@@ -217,6 +259,12 @@ impl DeviceServer for Changer {
         }
     }
 
-    /// The elements stay as they are.
+    fn note_journey(&mut self, source: u16, destination: u16) {
+        if let Some(hosts) = &mut self.hosts {
+            hosts.sources.note_move(source, destination);
+        }
+    }
+
+    /// A changer stays as it is.
     fn reset(&mut self) {}
 }

@@ -3,6 +3,8 @@
 
 mod changer;
 mod faults;
+mod host_answers;
+mod host_changer;
 mod mode;
 
 pub use changer::Changer;

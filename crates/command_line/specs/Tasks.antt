@@ -51,8 +51,8 @@ pub record IsClientOptions (host : ClientOptions) : Type 0 where
   pub last_port : host.nexus.port ≤ 4
 
 abbrev pub IsDoable : Task → Type 0
-IsDoable (Replay library explanations audit) = MakesLibrary library
-IsDoable (Serve library serving audit) = MakesServed library serving.media × IsServeOptions serving
+IsDoable (Replay library profile explanations audit) = MakesLibrary library
+IsDoable (Serve library profile serving audit) = MakesServed library serving.media × IsServeOptions serving
 IsDoable (Client host explanations) = IsClientOptions host
-IsDoable (Cells class) = Unit {0}
+IsDoable (Cells profile class) = Unit {0}
 IsDoable (CheckMedia folder) = Unit {0}

@@ -1,8 +1,8 @@
 //! What the program's commands are and say of themselves.
 
 use crate::options::{
-    AUDIT, CELLS, CHECK, CLIENT, EXPLAIN, ISCSI, LIBRARY, LOG, MEDIA, OptionRow, PLACE, RECORDS,
-    TIMES, with_options,
+    AUDIT, CELLS, CHECK, CLIENT, EXPLAIN, ISCSI, LIBRARY, LOG, MEDIA, OptionRow, PLACE, PROFILE,
+    PROFILE_ALONE, RECORDS, TIMES, with_options,
 };
 use clap::Command;
 use std::alloc::{AllocError, Global};
@@ -51,13 +51,15 @@ const COMMANDS: [CommandRow; 4] = [
         name: "replay",
         about: "Runs the script on standard input, and prints a line for each reply",
         examples: REPLAY_EXAMPLE,
-        tables: &[&LIBRARY, &EXPLAIN, &AUDIT],
+        tables: &[&LIBRARY, &PROFILE_ALONE, &EXPLAIN, &AUDIT],
     },
     CommandRow {
         name: "serve",
         about: "Serves the library at a Unix socket, over iSCSI or both, and prints a line for each record",
         examples: SERVE_EXAMPLE,
-        tables: &[&LIBRARY, &MEDIA, &PLACE, &ISCSI, &RECORDS, &TIMES, &LOG],
+        tables: &[
+            &LIBRARY, &PROFILE, &MEDIA, &PLACE, &ISCSI, &RECORDS, &TIMES, &LOG,
+        ],
     },
     CommandRow {
         name: "client",
@@ -69,7 +71,7 @@ const COMMANDS: [CommandRow; 4] = [
         name: "cells",
         about: "Prints which commands the permission table of persistent reservations allows",
         examples: CELLS_EXAMPLE,
-        tables: &[&CELLS],
+        tables: &[&PROFILE_ALONE, &CELLS],
     },
 ];
 

@@ -101,6 +101,38 @@ pub(crate) const LIBRARY: [OptionRow; 5] = [
     },
 ];
 
+/// Which profile a served library has, and which number.
+pub(crate) const PROFILE: [OptionRow; 2] = [
+    OptionRow {
+        name: "profile",
+        value: OptionValue::Text("PROFILE"),
+        presence: Presence::Optional,
+        excludes: None,
+        needs: None,
+        help: "How units answer: spec for the commands that sharing tapes needs, or hosts for those that unmodified programs ask for too; spec \
+            by default, or as the library in the folder is",
+    },
+    OptionRow {
+        name: "library-id",
+        value: OptionValue::Text("HEX8"),
+        presence: Presence::Optional,
+        excludes: None,
+        needs: None,
+        help: "The number of a library with the profile hosts, in 8 hexadecimal digits: the serial numbers of its units begin with it; by \
+            default that of the folder, where one is made once, or without a folder one from the target's name",
+    },
+];
+
+/// The profile alone.
+pub(crate) const PROFILE_ALONE: [OptionRow; 1] = [OptionRow {
+    name: "profile",
+    value: OptionValue::Text("PROFILE"),
+    presence: Presence::Optional,
+    excludes: None,
+    needs: None,
+    help: "spec for the commands that sharing tapes needs, or hosts for those that unmodified programs ask for too; spec by default",
+}];
+
 /// Where a library is saved, and how much memory it takes.
 pub(crate) const MEDIA: [OptionRow; 3] = [
     OptionRow {

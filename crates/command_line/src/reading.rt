@@ -6,19 +6,24 @@ use crate::commands::program;
 use crate::task::{ClientOptions, IscsiOptions, MediaOptions, ServeOptions, Task};
 use clap::ArgMatches;
 use clap::parser::ValueSource;
+use inquiry_data::LibraryNumber;
 use output_lines::{Audit, Explanations};
 use permission_chart::class_named;
 use program_options::{
-    ChapDigests, CommandLineFault, GivenLibrary, LibraryOptions, NamedHost, OptionFault,
-    PortalOptions, ServeTimes, ServeUntil, WithoutLibrary, chap_digests_of, host_beside,
-    is_iscsi_name, memory_size_of, most_strangers, nexus_of, portal_of, volume_size_of,
+    ChapDigests, CommandLineFault, GivenLibrary, GivenProfile, LibraryOptions, LibraryProfile,
+    NamedHost, OptionFault, PortalOptions, ServeTimes, ServeUntil, WithoutLibrary, chap_digests_of,
+    host_beside, is_iscsi_name, library_number_of, memory_size_of, most_strangers, nexus_of,
+    number_of_target, portal_of, profile_of, volume_size_of,
 };
-use scsi_cdb::Class;
+use scsi_cdb::{Class, Profile};
 use scsi_nexus::TARGET_PORTS;
 use std::alloc::{AllocError, Global};
 
 /// How many workers serve sessions until standard input ends, where nothing else is asked for.
 const DEFAULT_WORKERS: u8 = 64;
+
+/// The number of a library that a script runs through: its replies are the same each time (profile).
+const SCRIPT_NUMBER: LibraryNumber = LibraryNumber { number: 0 };
 
 /// The target's iSCSI name, where nothing else is asked for (profile).
 const DEFAULT_TARGET_NAME: &str = "iqn.2026-11.localhost:vtl";
@@ -42,7 +47,7 @@ fn task_in(alloc: Global, matches: &ArgMatches) -> Result<Task, CommandLineFault
         return Ok(Task::Client(client_options_of(alloc, client)?, explanations_of(client)));
     }
     if let Some(cells) = matches.subcommand_matches("cells") {
-        return Ok(Task::Cells(class_of(alloc, cells)?));
+        return cells_task(alloc, cells);
     }
     if let Some(media) = matches.subcommand_matches("media") {
         return Ok(Task::CheckMedia(checked_folder_of(alloc, media)?));
@@ -50,27 +55,95 @@ fn task_in(alloc: Global, matches: &ArgMatches) -> Result<Task, CommandLineFault
     match matches.subcommand_matches("replay") {
         Some(replay) => replay_task(alloc, replay),
         // `clap` asks for a subcommand, and there is no other.
-        None => Ok(Task::Replay(LibraryOptions::DEFAULT, Explanations::Off, Audit::Off)),
+        None => Ok(Task::Replay(
+            LibraryOptions::DEFAULT,
+            LibraryProfile::Spec,
+            Explanations::Off,
+            Audit::Off,
+        )),
     }
 }
 
 fn serve_task(alloc: Global, serve: &ArgMatches) -> Result<Task, CommandLineFault>
     ensures { IfOk result IsDoable }
 {
-    let media = media_options_of(alloc, serve)?;
+    let given = given_profile_of(alloc, serve)?;
+    let media = media_options_of(alloc, serve, given)?;
     let library = served_library_of(alloc, serve, &media)?;
-    Ok(Task::Serve(
-        library,
-        serve_options_of(alloc, serve, media)?,
-        records_of(serve),
-    ))
+    let serving = serve_options_of(alloc, serve, media)?;
+    let profile = served_profile_of(alloc, serve, given, &serving.media)?;
+    Ok(Task::Serve(library, profile, serving, records_of(serve)))
 }
 
 fn replay_task(alloc: Global, replay: &ArgMatches) -> Result<Task, CommandLineFault>
     ensures { IfOk result IsDoable }
 {
     let library = library_of(alloc, replay)?;
-    Ok(Task::Replay(library, explanations_of(replay), audit_of(replay)))
+    let given = GivenProfile {
+        profile: profile_in(alloc, replay)?,
+        library_number: None,
+    };
+    Ok(Task::Replay(
+        library,
+        given.made_profile(SCRIPT_NUMBER),
+        explanations_of(replay),
+        audit_of(replay),
+    ))
+}
+
+fn cells_task(alloc: Global, cells: &ArgMatches) -> Result<Task, CommandLineFault>
+    ensures { IfOk result IsDoable }
+{
+    let profile = profile_in(alloc, cells)?.unwrap_or(Profile::Spec);
+    Ok(Task::Cells(profile, class_of(alloc, cells, profile)?))
+}
+
+/// What a command says of the profile of a library, and of its number.
+fn given_profile_of(alloc: Global, command: &ArgMatches) -> Result<GivenProfile, CommandLineFault> {
+    Ok(GivenProfile {
+        profile: profile_in(alloc, command)?,
+        library_number: library_number_in(alloc, command)?,
+    })
+}
+
+/// The profile that a command names, if it does.
+fn profile_in(alloc: Global, command: &ArgMatches) -> Result<Option<Profile>, CommandLineFault> {
+    let Some(text) = command.get_str("profile") else {
+        return Ok(None);
+    };
+    match profile_of(text) {
+        Ok(profile) => Ok(Some(profile)),
+        Err(fault) => Err(refused_word(alloc, fault, text)),
+    }
+}
+
+/// The number of a library that a command names, if it does.
+fn library_number_in(
+    alloc: Global,
+    command: &ArgMatches,
+) -> Result<Option<LibraryNumber>, CommandLineFault> {
+    let Some(text) = command.get_str("library-id") else {
+        return Ok(None);
+    };
+    match library_number_of(text) {
+        Ok(number) => Ok(Some(number)),
+        Err(fault) => Err(refused_word(alloc, fault, text)),
+    }
+}
+
+/// The profile of a served library that isn't kept, whose number comes from the target's name unless one is given. Whether one that is kept may
+/// have a number is decided where its folder is opened.
+fn served_profile_of(
+    alloc: Global,
+    command: &ArgMatches,
+    given: GivenProfile,
+    media: &Option<MediaOptions>,
+) -> Result<LibraryProfile, CommandLineFault> {
+    if media.is_none() && !given.is_fitting() {
+        return Err(CommandLineFault::Options(OptionFault::NumberWithoutHosts));
+    }
+    let name = target_name_of(alloc, command)?;
+    Ok(given.made_profile(number_of_target(name.as_str())))
 }
 
 /// What the library of a command is made of.
@@ -170,7 +243,11 @@ fn is_said(command: &ArgMatches, name: &str) -> bool {
 }
 
 /// Where the library of a command is kept, if it is to be, and what it has to agree with.
-fn media_options_of(alloc: Global, command: &ArgMatches) -> Result<Option<MediaOptions>, AllocError>
+fn media_options_of(
+    alloc: Global,
+    command: &ArgMatches,
+    profile: GivenProfile,
+) -> Result<Option<MediaOptions>, AllocError>
     ensures { IfOk result (λ media. IfSome media IsMediaOptions) }
 {
     match command.get_str("media") {
@@ -178,6 +255,7 @@ fn media_options_of(alloc: Global, command: &ArgMatches) -> Result<Option<MediaO
             folder: String::from_str(alloc, folder)?,
             without: without_library_of(command),
             given: given_library_of(command),
+            profile,
         })),
         None => Ok(None),
     }
@@ -437,12 +515,16 @@ fn client_options_of(alloc: Global, command: &ArgMatches) -> Result<ClientOption
     Ok(ClientOptions { socket, nexus })
 }
 
-/// The class of commands that is asked for by its name, if one is.
-fn class_of(alloc: Global, command: &ArgMatches) -> Result<Option<Class>, CommandLineFault> {
+/// The class of a profile's commands that is asked for by its name, if one is.
+fn class_of(
+    alloc: Global,
+    command: &ArgMatches,
+    profile: Profile,
+) -> Result<Option<Class>, CommandLineFault> {
     let Some(name) = command.get_str("class") else {
         return Ok(None);
     };
-    match class_named(name) {
+    match class_named(profile, name) {
         Some(class) => Ok(Some(class)),
         None => Err(CommandLineFault::NoClass(String::from_str(alloc, name)?)),
     }

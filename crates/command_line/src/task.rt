@@ -1,24 +1,25 @@
 use output_lines::{Audit, Explanations};
 use program_options::{
-    ChapDigests, GivenLibrary, LibraryOptions, NamedHost, PortalOptions, ServeTimes, ServeUntil,
-    WithoutLibrary,
+    ChapDigests, GivenLibrary, GivenProfile, LibraryOptions, LibraryProfile, NamedHost,
+    PortalOptions, ServeTimes, ServeUntil, WithoutLibrary,
 };
-use scsi_cdb::Class;
+use scsi_cdb::{Class, Profile};
 use scsi_nexus::Nexus;
 
 /// What the program is asked to do.
 #[derive(Drop)]
 pub enum Task {
-    /// Run the script of standard input at a library, and print its replies, in words too where that is wanted, and
+    /// Run the script of standard input at a library of a profile, and print its replies, in words too where that is wanted, and
     /// what is wanted of the records.
-    Replay(LibraryOptions, Explanations, Audit),
+    Replay(LibraryOptions, LibraryProfile, Explanations, Audit),
     /// Serve a library at a socket or by iSCSI, and print what is wanted of the records. Where it is kept in a folder, the options of the
-    /// library are what one is made of that isn't there yet, and may ask for more volumes than there are storage elements.
-    Serve(LibraryOptions, ServeOptions, Audit),
+    /// library are what one is made of that isn't there yet, and may ask for more volumes than there are storage elements; its profile is
+    /// decided there.
+    Serve(LibraryOptions, LibraryProfile, ServeOptions, Audit),
     /// Send the script of standard input to a served library, and print its replies, in words too where that is wanted.
     Client(ClientOptions, Explanations),
-    /// Print the permission table, or the line of one class of commands.
-    Cells(Option<Class>),
+    /// Print the permission table of a profile, or the line of one class of its commands.
+    Cells(Profile, Option<Class>),
     /// Print what the images of the volumes hold that are in the folder at this path, and what is wrong with them.
     CheckMedia(String),
 }
@@ -53,6 +54,8 @@ pub struct MediaOptions {
     pub without: WithoutLibrary,
     /// What the command line says of the library.
     pub given: GivenLibrary,
+    /// The same of its profile.
+    pub profile: GivenProfile,
 }
 
 /// Where iSCSI initiators connect, and which of them may log in.

@@ -1,13 +1,16 @@
 -- Which commands a device ends by 44h/00h.
-use Rattle.std.proofs.Common.{◌≡◌, ℕ, Bool, true, false, List, [], Option, Some, None, Result, Ok, Err, refl}
-use Rattle.std.specs.Prelude.{cond, take, length, ◌==◌, ◌||◌, ◌&&◌, ◌-◌, ◌*◌, ◌+◌, not, is_none, nat_le, nat_lt, unsigned_abs, slice_index_or}
+use Rattle.std.proofs.Common.{◌≡◌, ℕ, Bool, true, false, List, [], Option, Some, None, Result, Ok, Err, refl, ap, ◌∙◌}
+use Rattle.std.specs.Prelude.{cond, take, length, ◌==◌, ◌||◌, ◌&&◌, ◌-◌, ◌*◌, is_none, nat_le, unsigned_abs, slice_index_or}
 use Rattle.std.specs.List.{flat_map}
+use Rattle.scsi_cdb.specs.declared.host_request.HostRequest.{HostRequest}
+use Rattle.scsi_cdb.specs.declared.host_request.HostRequest.TheVariants as host
 use Rattle.scsi_cdb.specs.declared.kind.Kind.{Kind}
+use Rattle.scsi_cdb.specs.declared.kind.Kind.TheVariants.{Drive as drive_kind, Changer as changer_kind}
 use Rattle.scsi_cdb.specs.declared.request.Request.{Request}
 use Rattle.scsi_cdb.specs.declared.request.Request.TheVariants as request
 use Rattle.scsi_sense.specs.Conditions.{sense_for}
 use Rattle.scsi_sense.specs.declared.condition.Condition.{Condition}
-use Rattle.scsi_sense.specs.declared.condition.Condition.TheVariants.{InitializingCommandRequired, InvalidFieldInCdb, InvalidFieldInParameterList, ParameterListLengthError, SavingParametersNotSupported, WriteProtected, EndOfDataDetected}
+use Rattle.scsi_sense.specs.declared.condition.Condition.TheVariants.{InitializingCommandRequired, InvalidFieldInCdb, WriteProtected, EndOfDataDetected}
 use Rattle.tape_medium.specs.declared.elements.MapFault.{MapFault}
 use Rattle.tape_medium.specs.declared.elements.MapFault.TheVariants.{BadAddress, SourceEmpty, DestinationFull}
 use Rattle.tape_medium.specs.Elements.{Elements, Element, Transport, DataTransfer, ImportExport, Storage, Nowhere, element_at, tag_of, tag_held, held_in, moved, refusal, move_refusal}
@@ -22,53 +25,36 @@ use Rattle.tape_medium.specs.declared.item.Item.TheVariants as item
 use Rattle.tape_medium.specs.declared.space.Stop.{Stop}
 use Rattle.tape_medium.specs.declared.space.Stop.TheVariants.{Done, AtMark, AtEnd, AtStart}
 use Rattle.tape_medium.specs.declared.volume.Volume.{Volume}
+use Rattle.mode_pages.specs.ChangerData.{changer_fault, changer_data as changer_mode_data_of}
+use Rattle.mode_pages.specs.DriveData.{answered, drive_fault, drive_data as mode_data_of}
+use Rattle.mode_pages.specs.declared.request.HeaderForm.TheVariants.{Six, Ten}
+use Rattle.mode_pages.specs.declared.values.ModeValues.{ModeValues}
+use Rattle.log_pages.specs.LogSelect as log
+use Rattle.mode_pages.specs.Select as mode
+use Rattle.log_pages.specs.LogSense.{why_not, drive_log_data, changer_log_data}
+use Rattle.log_pages.proofs.Fields.{drives_refuse_fields, changers_refuse_fields}
+use Rattle.log_pages.specs.declared.change.LogChange.{LogChange}
+use Rattle.log_pages.specs.declared.drive_log.DriveLog.{DriveLog}
+use Rattle.log_pages.specs.declared.log_sense.LogSense.{LogSense}
+use Rattle.supported_commands.specs.Answers as codes
+use Rattle.supported_commands.specs.Options.{options_at}
+use Rattle.supported_commands.specs.declared.options.ReportingOptions.{ReportingOptions}
+use Rattle.device_server.specs.declared.host_changer.HostChanger.{HostChanger}
+use Rattle.device_server.specs.declared.host_drive.HostDrive.{HostDrive}
 use Rattle.device_server.specs.declared.outcome.Outcome.{Outcome}
-use Rattle.device_server.specs.Outcomes.{done, refused}
-use Rattle.device_server.specs.Changer.{moved_alone, carried}
+use Rattle.device_server.specs.Outcomes.{done, refused, answers}
+use Rattle.device_server.specs.Changer.{moved_alone, carried, changer_step}
 use Rattle.device_server.specs.Drive.{DriveView, read_of, reads, run, bytes_of_object, ended_by, end_of_run, reads_fixed, wrote, unless_protected, unless_nothing, is_fixed_transfer, stopped, space_code, on_tape, in_volume, in_bay, loads, drive_step}
-use Rattle.device_server.specs.Failures.{is_failure, is_data_transfer, DrivesNeverFail, ChangersFailForDrives}
-use Rattle.device_server.specs.Fields.{invalid_where, is_page_of, field_fault_of}
-use Rattle.device_server.specs.Mode.{descriptor_length, block_length_in, list_fault}
-use Rattle.device_server.specs.View.{DeviceView, Drive, Changer, field_fault, stepped, performed}
-
--- FIELDS that are refused report something else
-abbrev pub fault_fails : Option Condition → Bool
-fault_fails None = false
-fault_fails (Some condition) = is_failure (Some (sense_for condition))
-
-invalid_free : (wrong : Bool) → fault_fails (invalid_where wrong) ≡ false
-invalid_free true = refl
-invalid_free false = refl
-
-either_fault : (b : Bool) (x y : Option Condition) → fault_fails x ≡ false → fault_fails y ≡ false → fault_fails (cond b x y) ≡ false
-either_fault true x y p q = p
-either_fault false x y p q = q
-
-list_free : (told : ℕ) (list : List ℕ) → fault_fails (list_fault told list) ≡ false
-list_free told list =
-    let d = descriptor_length list in
-    either_fault (told == 0) None _ refl
-    (either_fault (not (length list == told)) (Some ParameterListLengthError) _ refl
-    (either_fault (nat_lt told 4) (Some ParameterListLengthError) _ refl
-    (either_fault (not (d == 0) && not (d == 8)) (Some InvalidFieldInParameterList) _ refl
-    (either_fault (not (told == 4 + d)) (Some ParameterListLengthError) _ refl
-    (either_fault (d == 8 && nat_lt block_limit (block_length_in list)) (Some InvalidFieldInParameterList) None refl refl)))))
-
-pub field_free : (kind : Kind) (r : Request) (bytes : List ℕ) → fault_fails (field_fault_of kind r bytes) ≡ false
-field_free kind (request.Read sili fixed l) bytes = invalid_free (sili && fixed)
-field_free kind (request.Write true l) bytes = refl
-field_free kind (request.Write false l) bytes = invalid_free (nat_lt block_limit l || not (length bytes == l))
-field_free kind (request.WriteFilemarks wsmk immed count) bytes = invalid_free wsmk
-field_free kind (request.Space code count) bytes = invalid_free _
-field_free kind (request.ModeSelect true l) bytes = refl
-field_free kind (request.ModeSelect false l) bytes = list_free l bytes
-field_free kind (request.ModeSense dbd pc page subpage l) bytes =
-    either_fault (pc == 3) (Some SavingParametersNotSupported) _ refl (invalid_free (not (pc == 0) || not (subpage == 0) || not (is_page_of kind page)))
-field_free kind (request.LoadUnload hold eot load) bytes = invalid_free (hold || eot)
-field_free kind (request.Locate bt cp object) bytes = invalid_free (bt || cp)
-field_free kind (request.MoveMedium transport source destination invert) bytes = invalid_free invert
-field_free kind (request.ReadElementStatus voltag type_code start count curdata dvcid l) bytes = invalid_free (nat_lt 4 type_code || dvcid)
-field_free kind r bytes = refl
+use Rattle.device_server.specs.Failures.{is_failure, is_data_transfer, is_for_drives, DrivesNeverFail, ChangersFailForDrives}
+use Rattle.device_server.specs.HostFields.{refusal_of}
+use Rattle.device_server.specs.Hosts.{mode_sense, log_sense, log_select, codes_asked, codes_answer}
+use Rattle.device_server.specs.HostChanger.{ChangerView, addresses_of, changer_log_selected, changer_command_answer, host_changer_step}
+use Rattle.device_server.specs.HostDrive.{mode_of, mode_state, host_selects, host_loads, not_ready, host_in_volume, host_in_bay, drive_log, host_log_selects, host_command_step, host_drive_step}
+use Rattle.device_server.specs.View.{DeviceView, Drive, Changer, commands_of, field_fault, drive_stepped, changer_stepped, stepped, performed}
+use Rattle.device_server.specs.Volumes.{is_move}
+use Rattle.device_server.proofs.FaultLemmas.{fault_fails, fails, either_answer, selected_free, mode_sense_free, log_sense_free, log_selected_free, field_free}
+use Rattle.device_server.proofs.FieldLemmas.{move_performed, inverted_performed}
+use Rattle.device_server.proofs.MoveLemmas.{host_carried_alike}
 
 -- A DRIVE
 abbrev IsFree : {A : Type 0} → A × Outcome → Type 0
@@ -127,7 +113,7 @@ tape_free m protected t (request.Space code count) bytes =
     let moved = spaced (space_code code) t count in
     stopped_free (unsigned_abs count - moved.1.moved) moved.1.stop
 tape_free m protected t request.Erase bytes = either protected (t, refused WriteProtected) (erased t, done []) refl refl
-tape_free m protected t (request.Locate bt cp object) bytes = either_end (nat_le object (length t.objects)) (done []) (refused EndOfDataDetected) refl refl
+tape_free m protected t (request.Locate bt cp object partition) bytes = either_end (nat_le object (length t.objects)) (done []) (refused EndOfDataDetected) refl refl
 tape_free m protected t r bytes = refl
 
 bay_free : (d : DriveView) (o : Option Volume) (r : Request) (bytes : List ℕ) → IsFree (in_bay d o r bytes)
@@ -146,16 +132,93 @@ drive_free d (request.ModeSense dbd pc page subpage l) bytes = refl
 drive_free d (request.LoadUnload hold eot load) bytes = loads_free d d.bay load
 drive_free d r bytes = bay_free d d.bay r bytes
 
+-- of the hosts' profile
+answers_free : (l : ℕ) (answer : Result (List ℕ) Condition) → fails answer ≡ false → is_failure (answers l answer).sense ≡ false
+answers_free l (Ok bytes) free = refl
+answers_free l (Err condition) free = free
+
+answered_free : (fault : Option Condition) (bytes : List ℕ) → fault_fails fault ≡ false → fails (answered fault bytes) ≡ false
+answered_free None bytes free = refl
+answered_free (Some condition) bytes free = free
+
+same_refusal : (answer : Result (List ℕ) Condition) → refusal_of answer ≡ why_not answer
+same_refusal (Ok bytes) = refl
+same_refusal (Err condition) = refl
+
+drive_log_free : (sense : LogSense) (drive : DriveLog) → fails (drive_log_data sense drive) ≡ false
+drive_log_free sense drive =
+    ap fault_fails (same_refusal (drive_log_data sense drive) ∙ drives_refuse_fields sense drive) ∙ log_sense_free drive_kind sense
+
+changer_log_free : (sense : LogSense) → fails (changer_log_data sense) ≡ false
+changer_log_free sense =
+    ap fault_fails (same_refusal (changer_log_data sense) ∙ changers_refuse_fields sense) ∙ log_sense_free changer_kind sense
+
+codes_answer_free : (kind : Kind) (rctd : Bool) (options : Option ReportingOptions) (code action : ℕ) → fails (codes_answer kind rctd options code action) ≡ false
+codes_answer_free kind rctd None code action = refl
+codes_answer_free kind rctd (Some options) code action =
+    either_answer (codes.is_refused options (codes.command_with_code kind code)) (Err InvalidFieldInCdb)
+    (Ok (codes.data_for kind (codes_asked rctd options code action) options)) refl refl
+
+selects_free : (d : DriveView) (h : HostDrive) (values : Result ModeValues Condition) → fails values ≡ false → IsFree (host_selects d h values)
+selects_free d h (Ok values) free = refl
+selects_free d h (Err condition) free = free
+
+log_selects_free : (d : DriveView) (h : HostDrive) (change : Result LogChange Condition) → fails change ≡ false → IsFree (host_log_selects d h change)
+log_selects_free d h (Ok change) free = refl
+log_selects_free d h (Err condition) free = free
+
+not_ready_free : (held : Bool) → is_failure (Some (sense_for (not_ready held))) ≡ false
+not_ready_free true = refl
+not_ready_free false = refl
+
+host_bay_free : (d : DriveView) (h : HostDrive) (o : Option Volume) (r : Request) (bytes : List ℕ) → IsFree (host_in_bay d h o r bytes)
+host_bay_free d h None r bytes = refl
+host_bay_free d h (Some v) r bytes =
+    either d.loaded (host_in_volume d h v r (on_tape d.block_length v.protected v.tape r bytes)) (d, refused (not_ready h.held))
+    (tape_free d.block_length v.protected v.tape r bytes) (not_ready_free h.held)
+
+host_loads_free : (d : DriveView) (h : HostDrive) (o : Option Volume) (hold load : Bool) → IsFree (host_loads d h o hold load)
+host_loads_free d h None hold load = refl
+host_loads_free d h (Some v) hold load = refl
+
+host_command_free : (d : DriveView) (h : HostDrive) (command : HostRequest) (bytes : List ℕ) → IsFree (host_command_step d h command bytes)
+host_command_free d h (host.SendDiagnostic code test l) bytes = refl
+host_command_free d h (host.LogSelect pcr sp pc page subpage l) bytes =
+    log_selects_free d h (log.selected drive_kind (log_select pcr sp page subpage l) (length bytes)) (log_selected_free drive_kind (log_select pcr sp page subpage l) (length bytes))
+host_command_free d h (host.LogSense ppc sp pc page subpage pointer l) bytes =
+    answers_free l (drive_log_data (log_sense ppc sp page subpage pointer) (drive_log d h)) (drive_log_free (log_sense ppc sp page subpage pointer) (drive_log d h))
+host_command_free d h (host.ModeSelect10 sp l) bytes = selects_free d h (mode.selected (mode_of d h) block_limit Ten sp l bytes) (selected_free (mode_of d h) block_limit Ten sp l bytes)
+host_command_free d h (host.ModeSense10 dbd pc page subpage l) bytes =
+    let sense = mode_sense Ten dbd pc page subpage in
+    answers_free l (answered (drive_fault sense) (mode_data_of sense (mode_state d h))) (answered_free (drive_fault sense) (mode_data_of sense (mode_state d h)) (mode_sense_free drive_kind sense))
+host_command_free d h (host.ReportSupportedOperationCodes rctd options code action l) bytes =
+    answers_free l (codes_answer drive_kind rctd (options_at options) code action) (codes_answer_free drive_kind rctd (options_at options) code action)
+host_command_free d h (host.ReportSupportedTaskManagementFunctions repd l) bytes = refl
+
+host_drive_free : (d : DriveView) (h : HostDrive) (r : Request) (bytes : List ℕ) → IsFree (host_drive_step d h r bytes)
+host_drive_free d h request.ReadBlockLimits bytes = refl
+host_drive_free d h (request.ModeSelect sp l) bytes = selects_free d h (mode.selected (mode_of d h) block_limit Six sp l bytes) (selected_free (mode_of d h) block_limit Six sp l bytes)
+host_drive_free d h (request.ModeSense dbd pc page subpage l) bytes =
+    let sense = mode_sense Six dbd pc page subpage in
+    answers_free l (answered (drive_fault sense) (mode_data_of sense (mode_state d h))) (answered_free (drive_fault sense) (mode_data_of sense (mode_state d h)) (mode_sense_free drive_kind sense))
+host_drive_free d h (request.LoadUnload hold eot load) bytes = host_loads_free d h d.bay hold load
+host_drive_free d h (request.Host command) bytes = host_command_free d h command bytes
+host_drive_free d h r bytes = host_bay_free d h d.bay r bytes
+
+stepped_free : (o : Option HostDrive) (d : DriveView) (r : Request) (bytes : List ℕ) → IsFree (drive_stepped o d r bytes)
+stepped_free None d r bytes = drive_free d r bytes
+stepped_free (Some h) d r bytes = host_drive_free d h r bytes
+
 -- a device whose step doesn't fail
 performs_free : (device : DeviceView) (r : Request) (bytes : List ℕ) → IsFree (stepped device r bytes) → IsFree (performed device r bytes)
 performs_free device r bytes free =
     elim (field_fault device r bytes) as (λ (o : Option Condition). fault_fails o ≡ false → (let step : DeviceView × Outcome = elim o [ Some condition ↦ (device, refused condition) | None ↦ stepped device r bytes ] in IsFree step)) [
       | Some condition ↦ λ fields. fields
       | None ↦ λ fields. free
-    ] (field_free _ r bytes)
+    ] (field_free (commands_of device) r bytes)
 
 pub drives_never_fail : DrivesNeverFail
-drives_never_fail d r bytes = performs_free (Drive d) r bytes (drive_free d r bytes)
+drives_never_fail d r bytes = performs_free (Drive d) r bytes (stepped_free d.hosts d r bytes)
 
 -- A CHANGER. A move between its own elements that nothing refuses is carried out
 own_free : (e : Elements) (from to : Element) (x y : Option Volume) → refusal (Some (tag_of x)) (Some (tag_of y)) ≡ None → IsFree (moved_alone e (moved e from (Some x) to (Some y)))
@@ -191,7 +254,62 @@ carried_fails e t s d (Some SourceEmpty) h = refl
 carried_fails e t s d (Some DestinationFull) h = refl
 carried_fails e t s d None h = moves_fail e (t == 0) s d h
 
+-- of the hosts' profile
+changer_log_selected_free : (change : Result LogChange Condition) → fails change ≡ false → is_failure (changer_log_selected change).sense ≡ false
+changer_log_selected_free (Ok change) free = refl
+changer_log_selected_free (Err condition) free = free
+
+changer_command_free : (e : Elements) (command : HostRequest) (bytes : List ℕ) → is_failure (changer_command_answer e command bytes).sense ≡ false
+changer_command_free e (host.SendDiagnostic code test l) bytes = refl
+changer_command_free e (host.LogSelect pcr sp pc page subpage l) bytes =
+    changer_log_selected_free (log.selected changer_kind (log_select pcr sp page subpage l) (length bytes)) (log_selected_free changer_kind (log_select pcr sp page subpage l) (length bytes))
+changer_command_free e (host.LogSense ppc sp pc page subpage pointer l) bytes =
+    answers_free l (changer_log_data (log_sense ppc sp page subpage pointer)) (changer_log_free (log_sense ppc sp page subpage pointer))
+changer_command_free e (host.ModeSelect10 sp l) bytes = refl
+changer_command_free e (host.ModeSense10 dbd pc page subpage l) bytes =
+    let sense = mode_sense Ten dbd pc page subpage in
+    answers_free l (answered (changer_fault sense) (changer_mode_data_of sense (addresses_of e))) (answered_free (changer_fault sense) (changer_mode_data_of sense (addresses_of e)) (mode_sense_free changer_kind sense))
+changer_command_free e (host.ReportSupportedOperationCodes rctd options code action l) bytes =
+    answers_free l (codes_answer changer_kind rctd (options_at options) code action) (codes_answer_free changer_kind rctd (options_at options) code action)
+changer_command_free e (host.ReportSupportedTaskManagementFunctions repd l) bytes = refl
+
+-- of every command but a move
+host_changer_free : (c : ChangerView) (h : HostChanger) (r : Request) (bytes : List ℕ) → is_move r ≡ false → IsFree (host_changer_step c h r bytes)
+host_changer_free c h (request.MoveMedium t s d invert) bytes other = absurd cc
+host_changer_free c h request.TestUnitReady bytes other = refl
+host_changer_free c h request.InitializeElementStatus bytes other = refl
+host_changer_free c h (request.ModeSense dbd pc page subpage l) bytes other =
+    let sense = mode_sense Six dbd pc page subpage in
+    answers_free l (answered (changer_fault sense) (changer_mode_data_of sense (addresses_of c.elements))) (answered_free (changer_fault sense) (changer_mode_data_of sense (addresses_of c.elements)) (mode_sense_free changer_kind sense))
+host_changer_free c h (request.ReadElementStatus voltag type_code start count curdata dvcid l) bytes other = refl
+host_changer_free c h (request.Host command) bytes other = changer_command_free c.elements command bytes
+host_changer_free c h r bytes other = refl
+
+changer_free : (e : Elements) (r : Request) → is_move r ≡ false → IsFree (changer_step e r)
+changer_free e (request.MoveMedium t s d invert) other = absurd cc
+changer_free e r other = refl
+
+changer_stepped_free : (o : Option HostChanger) (c : ChangerView) (r : Request) (bytes : List ℕ) → is_move r ≡ false → IsFree (changer_stepped o c r bytes)
+changer_stepped_free None c r bytes other = changer_free c.elements r other
+changer_stepped_free (Some h) c r bytes other = host_changer_free c h r bytes other
+
+stepped_fails : (o : Option HostChanger) (c : ChangerView) (t s d : ℕ) (bytes : List ℕ)
+    → is_failure (changer_stepped o c (request.MoveMedium t s d false) bytes).1.sense ≡ is_for_drives c.elements (request.MoveMedium t s d false)
+stepped_fails None c t s d bytes = carried_fails c.elements t s d (move_refusal c.elements t s d) refl
+stepped_fails (Some h) c t s d bytes =
+    ap (λ (x : Outcome). is_failure x.sense) (host_carried_alike c h s d (move_refusal c.elements t s d))
+    ∙ carried_fails c.elements t s d (move_refusal c.elements t s d) refl
+
+for_no_drives : (e : Elements) (r : Request) → is_move r ≡ false → false ≡ is_for_drives e r
+for_no_drives e (request.MoveMedium t s d invert) other = absurd cc
+for_no_drives e r other = refl
+
+other_fails : (c : ChangerView) (r : Request) (bytes : List ℕ) → is_move r ≡ false → is_failure (performed (Changer c) r bytes).1.sense ≡ is_for_drives c.elements r
+other_fails c r bytes other = performs_free (Changer c) r bytes (changer_stepped_free c.hosts c r bytes other) ∙ for_no_drives c.elements r other
+
 pub changers_fail_for_drives : ChangersFailForDrives
-changers_fail_for_drives e (request.MoveMedium t s d true) bytes = refl
-changers_fail_for_drives e (request.MoveMedium t s d false) bytes = carried_fails e t s d (move_refusal e t s d) refl
-changers_fail_for_drives e r bytes = performs_free (Changer e) r bytes refl
+changers_fail_for_drives c (request.MoveMedium t s d true) bytes =
+    ap (λ (x : DeviceView × Outcome). is_failure x.1.sense) (inverted_performed (Changer c) t s d bytes)
+changers_fail_for_drives c (request.MoveMedium t s d false) bytes =
+    ap (λ (x : DeviceView × Outcome). is_failure x.1.sense) (move_performed (Changer c) t s d bytes) ∙ stepped_fails c.hosts c t s d bytes
+changers_fail_for_drives c r bytes = other_fails c r bytes refl

@@ -1,5 +1,8 @@
 pub mod Outcomes
 pub mod SameDevice
+pub mod FaultLemmas
+pub mod FieldLemmas
+pub mod ByProfile
 pub mod InAndOut
 pub mod MarkLemmas
 pub mod TapeLemmas

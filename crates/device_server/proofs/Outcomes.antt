@@ -1,8 +1,13 @@
 -- How a device ends a command: GOOD or CHECK CONDITION, and with something that the others are told only where it is a MODE SELECT that is GOOD.
-use Rattle.std.proofs.Common.{◌≡◌, ℕ, Bool, true, false, List, [], Option, Some, None, Result, Ok, Err, refl, inl, inr}
+use Rattle.std.proofs.Common.{◌≡◌, ℕ, Bool, true, false, List, [], Option, Some, None, Result, Ok, Err, refl, ◌∙◌, inl, inr}
 use Rattle.std.specs.Prelude.{cond, not, take, length, ◌==◌, ◌||◌, ◌&&◌, ◌-◌, ◌*◌, nat_le, unsigned_abs}
 use Rattle.std.specs.List.{flat_map}
-use Rattle.scsi_cdb.specs.declared.classes.Class.TheVariants.{ModeSelect}
+use Rattle.std.specs.Option.{option_map}
+use Rattle.scsi_cdb.specs.declared.host_request.HostRequest.{HostRequest}
+use Rattle.scsi_cdb.specs.declared.host_request.HostRequest.TheVariants as host
+use Rattle.scsi_cdb.specs.declared.kind.Kind.TheVariants.{Drive as drive_kind, Changer as changer_kind}
+use Rattle.scsi_cdb.specs.declared.profile.Profile.{Profile}
+use Rattle.scsi_cdb.specs.declared.profile.Profile.TheVariants.{Spec, Hosts}
 use Rattle.scsi_cdb.specs.declared.request.Request.{Request}
 use Rattle.scsi_cdb.specs.declared.request.Request.TheVariants as request
 use Rattle.scsi_cdb.specs.Classes.{class_of}
@@ -13,6 +18,7 @@ use Rattle.scsi_sense.specs.declared.status.Status.TheVariants.{Good}
 use Rattle.tape_medium.specs.declared.elements.MapFault.{MapFault}
 use Rattle.tape_medium.specs.Elements.{Elements, moves, move_refusal}
 use Rattle.tape_medium.specs.ElementStatus.{element_status}
+use Rattle.tape_medium.specs.Limits.{block_limit}
 use Rattle.tape_medium.specs.Object.{Object, Block, Mark}
 use Rattle.tape_medium.specs.TapeView.{TapeView}
 use Rattle.tape_medium.specs.Tape.{ahead, object_at, erased, writes_block, writes_blocks, writes_marks}
@@ -23,13 +29,31 @@ use Rattle.tape_medium.specs.declared.item.Item.TheVariants as item
 use Rattle.tape_medium.specs.declared.space.Stop.{Stop}
 use Rattle.tape_medium.specs.declared.space.Stop.TheVariants.{Done, AtMark, AtEnd, AtStart}
 use Rattle.tape_medium.specs.declared.volume.Volume.{Volume}
+use Rattle.element_sources.specs.HostStatus.{host_status}
+use Rattle.mode_pages.specs.ChangerData.{changer_answer}
+use Rattle.mode_pages.specs.DriveData.{drive_answer}
+use Rattle.mode_pages.specs.Select as mode
+use Rattle.mode_pages.specs.declared.request.HeaderForm.TheVariants.{Six, Ten}
+use Rattle.mode_pages.specs.declared.values.ModeValues.{ModeValues}
+use Rattle.log_pages.specs.Counters.{is_reset}
+use Rattle.log_pages.specs.LogSelect as log
+use Rattle.log_pages.specs.LogSense.{drive_log_data, changer_log_data}
+use Rattle.log_pages.specs.declared.change.LogChange.{LogChange}
+use Rattle.supported_commands.specs.Options.{options_at}
+use Rattle.supported_commands.specs.TaskManagement.{task_management}
 use Rattle.unit_attention.specs.declared.kind.Kind.{Kind}
+use Rattle.unit_attention.specs.declared.kind.Kind.TheVariants.{MediumChanged, ModeParametersChanged, LogParametersChanged}
+use Rattle.device_server.specs.declared.host_changer.HostChanger.{HostChanger}
+use Rattle.device_server.specs.declared.host_drive.HostDrive.{HostDrive}
 use Rattle.device_server.specs.declared.outcome.Outcome.{Outcome}
-use Rattle.device_server.specs.Outcomes.{done, told_of_mode, ended, refused}
+use Rattle.device_server.specs.Outcomes.{done, tells, ended, refused, answers}
 use Rattle.device_server.specs.Drive.{DriveView, read_of, reads, run, bytes_of_object, ended_by, end_of_run, reads_fixed, wrote, unless_protected, unless_nothing, is_fixed_transfer, stopped, space_code, position_data, on_tape, in_volume, in_bay, loads, drive_step}
 use Rattle.device_server.specs.Mode.{block_length_after}
 use Rattle.device_server.specs.Changer.{changer_mode_data, moved_alone, carried, changer_step}
-use Rattle.device_server.specs.View.{DeviceView, Drive, Changer, field_fault, stepped, performed}
+use Rattle.device_server.specs.Hosts.{mode_sense, log_sense, log_select, codes_answer}
+use Rattle.device_server.specs.HostChanger.{ChangerView, host_moved_alone, host_carried, status_asked, addresses_of, changer_log_selected, changer_command_answer, host_changer_step}
+use Rattle.device_server.specs.HostDrive.{mode_of, mode_state, is_other_mode, host_selects, host_loads, not_ready, host_in_volume, host_in_bay, drive_log, host_log_selects, host_command_step, host_drive_step}
+use Rattle.device_server.specs.View.{DeviceView, Drive, Changer, profile_by, profile_of, field_fault, drive_stepped, changer_stepped, stepped, performed}
 use Rattle.device_server.specs.Ends.{IsEnded, told_by, IsOwn}
 
 -- of any command but MODE SELECT
@@ -41,13 +65,16 @@ absurd_told : (o : Option Kind) (kind : Kind) (A : Type 0) → o ≡ None → o 
 absurd_told None kind A steady e = absurd cc
 absurd_told (Some other) kind A steady e = absurd cc
 
--- a MODE SELECT tells what its class tells, or nothing
-mode_told : (changed : Bool) (kind : Kind) → told_of_mode changed ≡ Some kind → told_by ModeSelect ≡ Some kind
-mode_told true kind e = e
-mode_told false kind e = absurd cc
+own : (p : Profile) (r : Request) (o : Outcome) → IsOrdinary o → IsOwn p r o
+own p r o h = record { ended = h.ended; told = λ kind e. absurd_told o.told kind ((told_by p (class_of r) ≡ Some kind) × (o.status ≡ Good)) h.steady e }
 
-own : (r : Request) (o : Outcome) → IsOrdinary o → IsOwn r o
-own r o h = record { ended = h.ended; told = λ kind e. absurd_told o.told kind ((told_by (class_of r) ≡ Some kind) × (o.status ≡ Good)) h.steady e }
+-- a command that tells something, or nothing
+if_told : (b : Bool) (one kind : Kind) (of_class : Option Kind) → of_class ≡ Some one → cond b (Some one) None ≡ Some kind → of_class ≡ Some kind
+if_told true one kind of_class is e = is ∙ e
+if_told false one kind of_class is e = absurd cc
+
+tells_own : (p : Profile) (r : Request) (b : Bool) (one : Kind) → told_by p (class_of r) ≡ Some one → IsOwn p r (tells (cond b (Some one) None))
+tells_own p r b one is = record { ended = inl (refl, refl); told = λ kind e. (if_told b one kind (told_by p (class_of r)) is e, refl) }
 
 done_is : (payload : List ℕ) → IsOrdinary (done payload)
 done_is payload = record { ended = inl (refl, refl); steady = refl }
@@ -131,7 +158,7 @@ tape_is m protected t request.Erase bytes = guarded_is protected t (erased t, do
 tape_is m protected t (request.ModeSense dbd pc page subpage l) bytes = refused_is InvalidCommandOperationCode
 tape_is m protected t (request.LoadUnload hold eot load) bytes = refused_is InvalidCommandOperationCode
 tape_is m protected t (request.PreventAllowMediumRemoval prevent) bytes = refused_is InvalidCommandOperationCode
-tape_is m protected t (request.Locate bt cp object) bytes = either (nat_le object (length t.objects)) (done []) (refused EndOfDataDetected) (done_is []) (refused_is EndOfDataDetected)
+tape_is m protected t (request.Locate bt cp object partition) bytes = either (nat_le object (length t.objects)) (done []) (refused EndOfDataDetected) (done_is []) (refused_is EndOfDataDetected)
 tape_is m protected t request.ReadPosition bytes = done_is (position_data t.position)
 tape_is m protected t (request.PersistentReserveIn action l) bytes = refused_is InvalidCommandOperationCode
 tape_is m protected t (request.PersistentReserveOut action scope_type l) bytes = refused_is InvalidCommandOperationCode
@@ -149,10 +176,10 @@ loads_is : (d : DriveView) (o : Option Volume) (load : Bool) → Steps (loads d 
 loads_is d None load = refused_is MediumNotPresent
 loads_is d (Some v) load = done_is []
 
-by_bay : (d : DriveView) (r : Request) (bytes : List ℕ) → IsOwn r (in_bay d d.bay r bytes).1
-by_bay d r bytes = own r (in_bay d d.bay r bytes).1 (bay_is d d.bay r bytes)
+by_bay : (d : DriveView) (r : Request) (bytes : List ℕ) → IsOwn Spec r (in_bay d d.bay r bytes).1
+by_bay d r bytes = own Spec r (in_bay d d.bay r bytes).1 (bay_is d d.bay r bytes)
 
-drive_own : (d : DriveView) (r : Request) (bytes : List ℕ) → IsOwn r (drive_step d r bytes).1
+drive_own : (d : DriveView) (r : Request) (bytes : List ℕ) → IsOwn Spec r (drive_step d r bytes).1
 drive_own d request.TestUnitReady bytes = by_bay d request.TestUnitReady bytes
 drive_own d request.Rewind bytes = by_bay d request.Rewind bytes
 drive_own d (request.RequestSense desc l) bytes = by_bay d (request.RequestSense desc l) bytes
@@ -163,12 +190,13 @@ drive_own d (request.Write fixed l) bytes = by_bay d (request.Write fixed l) byt
 drive_own d (request.WriteFilemarks wsmk immed l) bytes = by_bay d (request.WriteFilemarks wsmk immed l) bytes
 drive_own d (request.Space code l) bytes = by_bay d (request.Space code l) bytes
 drive_own d (request.Inquiry evpd page l) bytes = by_bay d (request.Inquiry evpd page l) bytes
-drive_own d (request.ModeSelect sp l) bytes = record { ended = inl (refl, refl); told = λ kind e. (mode_told (not (block_length_after d.block_length l bytes == d.block_length)) kind e, refl) }
+drive_own d (request.ModeSelect sp l) bytes =
+    tells_own Spec (request.ModeSelect sp l) (not (block_length_after d.block_length l bytes == d.block_length)) ModeParametersChanged refl
 drive_own d request.Erase bytes = by_bay d request.Erase bytes
 drive_own d (request.ModeSense dbd pc page subpage l) bytes = record { ended = inl (refl, refl); told = λ kind e. absurd cc }
-drive_own d (request.LoadUnload hold eot load) bytes = own (request.LoadUnload hold eot load) (loads d d.bay load).1 (loads_is d d.bay load)
+drive_own d (request.LoadUnload hold eot load) bytes = own Spec (request.LoadUnload hold eot load) (loads d d.bay load).1 (loads_is d d.bay load)
 drive_own d (request.PreventAllowMediumRemoval prevent) bytes = by_bay d (request.PreventAllowMediumRemoval prevent) bytes
-drive_own d (request.Locate bt cp l) bytes = by_bay d (request.Locate bt cp l) bytes
+drive_own d (request.Locate bt cp l partition) bytes = by_bay d (request.Locate bt cp l partition) bytes
 drive_own d request.ReadPosition bytes = by_bay d request.ReadPosition bytes
 drive_own d (request.PersistentReserveIn action l) bytes = by_bay d (request.PersistentReserveIn action l) bytes
 drive_own d (request.PersistentReserveOut action scope_type l) bytes = by_bay d (request.PersistentReserveOut action scope_type l) bytes
@@ -193,13 +221,117 @@ changer_is e (request.MoveMedium transport source destination invert) = carried_
 changer_is e (request.ReadElementStatus voltag type_code start count curdata dvcid l) = done_is (take l (element_status e type_code start count voltag))
 changer_is e r = refused_is InvalidCommandOperationCode
 
-stepped_own : (d : DeviceView) (r : Request) (bytes : List ℕ) → IsOwn r (stepped d r bytes).1
-stepped_own (Drive d) r bytes = drive_own d r bytes
-stepped_own (Changer e) r bytes = own r (changer_step e r).1 (changer_is e r)
+-- A DRIVE of the hosts' profile
 
-pub performed_own : (d : DeviceView) (r : Request) (bytes : List ℕ) → IsOwn r (performed d r bytes).1
+answers_is : (l : ℕ) (answer : Result (List ℕ) Condition) → IsOrdinary (answers l answer)
+answers_is l (Ok bytes) = done_is (take l bytes)
+answers_is l (Err condition) = refused_is condition
+
+host_bay_is : (d : DriveView) (h : HostDrive) (o : Option Volume) (r : Request) (bytes : List ℕ) → Steps (host_in_bay d h o r bytes)
+host_bay_is d h None r bytes = refused_is MediumNotPresent
+host_bay_is d h (Some v) r bytes =
+    either_step d.loaded (host_in_volume d h v r (on_tape d.block_length v.protected v.tape r bytes)) (d, refused (not_ready h.held))
+    (tape_is d.block_length v.protected v.tape r bytes) (refused_is (not_ready h.held))
+
+host_loads_own : (r : Request) → told_by Hosts (class_of r) ≡ Some MediumChanged → (d : DriveView) (h : HostDrive) (o : Option Volume) (hold load : Bool)
+    → IsOwn Hosts r (host_loads d h o hold load).1
+host_loads_own r is d h None hold load = own Hosts r (refused MediumNotPresent) (refused_is MediumNotPresent)
+host_loads_own r is d h (Some v) hold load = tells_own Hosts r (load && not d.loaded) MediumChanged is
+
+selects_own : (r : Request) → told_by Hosts (class_of r) ≡ Some ModeParametersChanged → (d : DriveView) (h : HostDrive) (values : Result ModeValues Condition)
+    → IsOwn Hosts r (host_selects d h values).1
+selects_own r is d h (Ok values) = tells_own Hosts r (is_other_mode (mode_of d h) values) ModeParametersChanged is
+selects_own r is d h (Err condition) = own Hosts r (refused condition) (refused_is condition)
+
+log_selects_own : (r : Request) → told_by Hosts (class_of r) ≡ Some LogParametersChanged → (d : DriveView) (h : HostDrive) (change : Result LogChange Condition)
+    → IsOwn Hosts r (host_log_selects d h change).1
+log_selects_own r is d h (Ok change) = tells_own Hosts r (is_reset change) LogParametersChanged is
+log_selects_own r is d h (Err condition) = own Hosts r (refused condition) (refused_is condition)
+
+host_command_own : (d : DriveView) (h : HostDrive) (command : HostRequest) (bytes : List ℕ) → IsOwn Hosts (request.Host command) (host_command_step d h command bytes).1
+host_command_own d h (host.SendDiagnostic code test l) bytes = own Hosts _ (done []) (done_is [])
+host_command_own d h (host.LogSelect pcr sp pc page subpage l) bytes =
+    log_selects_own (request.Host (host.LogSelect pcr sp pc page subpage l)) refl d h (log.selected drive_kind (log_select pcr sp page subpage l) (length bytes))
+host_command_own d h (host.LogSense ppc sp pc page subpage pointer l) bytes =
+    own Hosts _ _ (answers_is l (drive_log_data (log_sense ppc sp page subpage pointer) (drive_log d h)))
+host_command_own d h (host.ModeSelect10 sp l) bytes =
+    selects_own (request.Host (host.ModeSelect10 sp l)) refl d h (mode.selected (mode_of d h) block_limit Ten sp l bytes)
+host_command_own d h (host.ModeSense10 dbd pc page subpage l) bytes =
+    own Hosts _ _ (answers_is l (drive_answer (mode_sense Ten dbd pc page subpage) (mode_state d h)))
+host_command_own d h (host.ReportSupportedOperationCodes rctd options code action l) bytes =
+    own Hosts _ _ (answers_is l (codes_answer drive_kind rctd (options_at options) code action))
+host_command_own d h (host.ReportSupportedTaskManagementFunctions repd l) bytes = own Hosts _ _ (done_is (take l (task_management repd)))
+
+host_drive_own : (d : DriveView) (h : HostDrive) (r : Request) (bytes : List ℕ) → IsOwn Hosts r (host_drive_step d h r bytes).1
+host_drive_own d h request.ReadBlockLimits bytes = own Hosts request.ReadBlockLimits _ (done_is _)
+host_drive_own d h (request.ModeSelect sp l) bytes = selects_own (request.ModeSelect sp l) refl d h (mode.selected (mode_of d h) block_limit Six sp l bytes)
+host_drive_own d h (request.ModeSense dbd pc page subpage l) bytes =
+    own Hosts (request.ModeSense dbd pc page subpage l) _ (answers_is l (drive_answer (mode_sense Six dbd pc page subpage) (mode_state d h)))
+host_drive_own d h (request.LoadUnload hold eot load) bytes = host_loads_own (request.LoadUnload hold eot load) refl d h d.bay hold load
+host_drive_own d h (request.Host command) bytes = host_command_own d h command bytes
+host_drive_own d h r bytes = own Hosts r (host_in_bay d h d.bay r bytes).1 (host_bay_is d h d.bay r bytes)
+
+-- A CHANGER of the hosts' profile
+
+host_moved_is : (c : ChangerView) (h : HostChanger) (source destination : ℕ) (r : Result Elements MapFault) → Steps (host_moved_alone c h source destination r)
+host_moved_is c h source destination (Ok after) = done_is []
+host_moved_is c h source destination (Err fault) = refused_is InternalTargetFailure
+
+host_carried_is : (c : ChangerView) (h : HostChanger) (source destination : ℕ) (o : Option MapFault) → Steps (host_carried c h source destination o)
+host_carried_is c h source destination (Some fault) = refused_is _
+host_carried_is c h source destination None = host_moved_is c h source destination (moves c.elements source destination)
+
+changer_log_own : (r : Request) → told_by Hosts (class_of r) ≡ Some LogParametersChanged → (change : Result LogChange Condition)
+    → IsOwn Hosts r (changer_log_selected change)
+changer_log_own r is (Ok change) = tells_own Hosts r (is_reset change) LogParametersChanged is
+changer_log_own r is (Err condition) = own Hosts r (refused condition) (refused_is condition)
+
+changer_command_own : (e : Elements) (command : HostRequest) (bytes : List ℕ) → IsOwn Hosts (request.Host command) (changer_command_answer e command bytes)
+changer_command_own e (host.SendDiagnostic code test l) bytes = own Hosts _ (done []) (done_is [])
+changer_command_own e (host.LogSelect pcr sp pc page subpage l) bytes =
+    changer_log_own (request.Host (host.LogSelect pcr sp pc page subpage l)) refl (log.selected changer_kind (log_select pcr sp page subpage l) (length bytes))
+changer_command_own e (host.LogSense ppc sp pc page subpage pointer l) bytes =
+    own Hosts _ _ (answers_is l (changer_log_data (log_sense ppc sp page subpage pointer)))
+changer_command_own e (host.ModeSelect10 sp l) bytes = own Hosts _ _ (refused_is InvalidCommandOperationCode)
+changer_command_own e (host.ModeSense10 dbd pc page subpage l) bytes =
+    own Hosts _ _ (answers_is l (changer_answer (mode_sense Ten dbd pc page subpage) (addresses_of e)))
+changer_command_own e (host.ReportSupportedOperationCodes rctd options code action l) bytes =
+    own Hosts _ _ (answers_is l (codes_answer changer_kind rctd (options_at options) code action))
+changer_command_own e (host.ReportSupportedTaskManagementFunctions repd l) bytes = own Hosts _ _ (done_is (take l (task_management repd)))
+
+host_changer_own : (c : ChangerView) (h : HostChanger) (r : Request) (bytes : List ℕ) → IsOwn Hosts r (host_changer_step c h r bytes).1
+host_changer_own c h request.TestUnitReady bytes = own Hosts request.TestUnitReady _ (done_is [])
+host_changer_own c h request.InitializeElementStatus bytes = own Hosts request.InitializeElementStatus _ (done_is [])
+host_changer_own c h (request.ModeSense dbd pc page subpage l) bytes =
+    own Hosts (request.ModeSense dbd pc page subpage l) _ (answers_is l (changer_answer (mode_sense Six dbd pc page subpage) (addresses_of c.elements)))
+host_changer_own c h (request.MoveMedium transport source destination invert) bytes =
+    own Hosts (request.MoveMedium transport source destination invert) _ (host_carried_is c h source destination (move_refusal c.elements transport source destination))
+host_changer_own c h (request.ReadElementStatus voltag type_code start count curdata dvcid l) bytes =
+    own Hosts (request.ReadElementStatus voltag type_code start count curdata dvcid l) _
+    (done_is (take l (host_status c.elements h.sources h.identity.library_number (status_asked voltag type_code start count dvcid))))
+host_changer_own c h (request.Host command) bytes = changer_command_own c.elements command bytes
+host_changer_own c h r bytes = own Hosts r (refused InvalidCommandOperationCode) (refused_is InvalidCommandOperationCode)
+
+-- BY THE PROFILE
+
+drive_stepped_own : (o : Option HostDrive) (d : DriveView) (r : Request) (bytes : List ℕ)
+    → IsOwn (profile_by (option_map (λ (h : HostDrive). h.identity) o)) r (drive_stepped o d r bytes).1
+drive_stepped_own None d r bytes = drive_own d r bytes
+drive_stepped_own (Some h) d r bytes = host_drive_own d h r bytes
+
+changer_stepped_own : (o : Option HostChanger) (c : ChangerView) (r : Request) (bytes : List ℕ)
+    → IsOwn (profile_by (option_map (λ (h : HostChanger). h.identity) o)) r (changer_stepped o c r bytes).1
+changer_stepped_own None c r bytes = own Spec r (changer_step c.elements r).1 (changer_is c.elements r)
+changer_stepped_own (Some h) c r bytes = host_changer_own c h r bytes
+
+stepped_own : (d : DeviceView) (r : Request) (bytes : List ℕ) → IsOwn (profile_of d) r (stepped d r bytes).1
+unfolding profile_of
+stepped_own (Drive d) r bytes = drive_stepped_own d.hosts d r bytes
+stepped_own (Changer c) r bytes = changer_stepped_own c.hosts c r bytes
+
+pub performed_own : (d : DeviceView) (r : Request) (bytes : List ℕ) → IsOwn (profile_of d) r (performed d r bytes).1
 performed_own d r bytes =
-    elim (field_fault d r bytes) as (λ (o : Option Condition). let step : DeviceView × Outcome = elim o [ Some condition ↦ (d, refused condition) | None ↦ stepped d r bytes ] in IsOwn r step.1) [
-      | Some condition ↦ own r (refused condition) (refused_is condition)
+    elim (field_fault d r bytes) as (λ (o : Option Condition). let step : DeviceView × Outcome = elim o [ Some condition ↦ (d, refused condition) | None ↦ stepped d r bytes ] in IsOwn (profile_of d) r step.1) [
+      | Some condition ↦ own (profile_of d) r (refused condition) (refused_is condition)
       | None ↦ stepped_own d r bytes
     ]

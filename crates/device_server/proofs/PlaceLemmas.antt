@@ -8,7 +8,7 @@ use Rattle.tape_medium.specs.Elements.{Elements, Element, Transport, DataTransfe
 use Rattle.tape_medium.proofs.ElementLemmas.{element_at-holding, IsWithin, element_at-within}
 use Rattle.device_server.specs.Drive.{rewound}
 use Rattle.device_server.specs.View.{DeviceView, Drive, Changer}
-use Rattle.device_server.specs.Volumes.{volume_at, SameVolume, SameAt, GoesOut, GoesIn, TakesOne, PutsOne, MarksMoveNothing}
+use Rattle.device_server.specs.Volumes.{volume_at, SameVolume, SameAt, GoesOut, GoesIn, TakesOne, PutsOne, MarksMoveNothing, JourneysMoveNothing}
 use Rattle.device_server.proofs.InAndOut.{drive_taken, drive_put, changer_taken, changer_put, marked_one}
 use Rattle.device_server.proofs.TapeLemmas.{same_volume, rewound_same}
 
@@ -63,9 +63,12 @@ set_others e (Storage i) (Storage j) a b held at_a at_b ne = let apart : j ≢ i
 set_others e (Storage i) Nowhere a b held at_a at_b ne = refl
 
 -- the same of the places of a changer
+abbrev pub volume_in : Elements → (place : ℕ) → Option Volume
+volume_in e place = unwrap_or (held_in e (element_at e place)) None
+
 pub record IsSet (before after : Elements) (place : ℕ) (held : Option Volume) : Type 0 where
-  pub here : volume_at (Changer after) place ≡ held
-  pub others : (other : ℕ) → other ≢ place → volume_at (Changer after) other ≡ volume_at (Changer before) other
+  pub here : volume_in after place ≡ held
+  pub others : (other : ℕ) → other ≢ place → volume_in after other ≡ volume_in before other
 
 pub sets : (e : Elements) (place : ℕ) (old held : Option Volume) → held_in e (element_at e place) ≡ Some old → IsSet e (holding e (element_at e place) held) place held
 sets e place old held h =
@@ -96,10 +99,10 @@ takes_one (Drive d) after place v h =
       empty = refl;
       others = elsewhere None d.bay;
     }))
-takes_one (Changer e) after place v h =
-    let out = changer_taken e place v after h in
-    let set = sets e place (Some v) None out.full in
-    subst (λ (x : DeviceView). GoesOut (Changer e) x place v) out.left (record {
+takes_one (Changer c) after place v h =
+    let out = changer_taken c place v after h in
+    let set = sets c.elements place (Some v) None out.full in
+    subst (λ (x : DeviceView). GoesOut (Changer c) x place v) out.left (record {
       full = subst (λ (x : Option (Option Volume)). SameAt SameVolume (unwrap_or x None) (Some v)) (sym out.full) (same_volume v);
       empty = set.here;
       others = set.others;
@@ -110,10 +113,10 @@ puts_one (Drive d) after place v h =
     let into = drive_put d place v after h in
     subst (λ (x : ℕ). GoesIn (Drive d) after x v) into.is_zero
     (subst (λ (x : DeviceView). GoesIn (Drive d) x 0 v) into.left (record { empty = into.empty; full = rewound_same v; others = elsewhere (Some (rewound v)) d.bay }))
-puts_one (Changer e) after place v h =
-    let into = changer_put e place v after h in
-    let set = sets e place None (Some v) into.empty in
-    subst (λ (x : DeviceView). GoesIn (Changer e) x place v) into.left (record {
+puts_one (Changer c) after place v h =
+    let into = changer_put c place v after h in
+    let set = sets c.elements place None (Some v) into.empty in
+    subst (λ (x : DeviceView). GoesIn (Changer c) x place v) into.left (record {
       empty = ap (λ x. unwrap_or x None) into.empty;
       full = subst (λ (x : Option Volume). SameAt SameVolume (Some v) x) (sym set.here) (same_volume v);
       others = set.others;
@@ -133,8 +136,13 @@ note_holds e tags Nowhere = refl
 
 pub marks_move_nothing : MarksMoveNothing
 marks_move_nothing (Drive d) after place tag h other = absurd cc
-marks_move_nothing (Changer e) after place tag h other =
+marks_move_nothing (Changer c) after place tag h other =
     let i : ℕ = place - first_data_transfer in
+    let e : Elements = c.elements in
     let noted : Elements = record e { data_transfer = set e.data_transfer i tag } in
-    subst (λ (x : DeviceView). volume_at x other ≡ volume_at (Changer e) other) (marked_one e place tag after h).rest
+    subst (λ (x : DeviceView). volume_at x other ≡ volume_at (Changer c) other) (marked_one c place tag after h).rest
     (ap (λ at. unwrap_or (held_in noted at) None) (note_names e i tag other) ∙ ap (λ held. unwrap_or held None) (note_holds e noted.data_transfer (element_at e other)))
+
+pub journeys_move_nothing : JourneysMoveNothing
+journeys_move_nothing (Drive d) source destination other = refl
+journeys_move_nothing (Changer c) source destination other = refl

@@ -6,10 +6,13 @@ use Rattle.std.proofs.Math.Seq.{map-set_same}
 use Rattle.tape_medium.specs.declared.volume.Volume.{Volume}
 use Rattle.tape_medium.specs.Elements.{Elements, Element, Transport, DataTransfer, ImportExport, Storage, Nowhere, element_at, held_in, holding}
 use Rattle.tape_medium.specs.Settling.{settled_to, unsettled_place, unsettled_elements}
+use Rattle.device_server.specs.declared.host_changer.HostChanger.{HostChanger}
+use Rattle.device_server.specs.declared.host_drive.HostDrive.{HostDrive}
 use Rattle.device_server.specs.Drive.{DriveView}
+use Rattle.device_server.specs.HostChanger.{ChangerView}
 use Rattle.device_server.specs.View.{Drive, Changer}
 use Rattle.device_server.specs.Settled.{unsettled, SettlingChangesNothingElse, StaysTheSameWhenSettled}
-use Rattle.device_server.proofs.SameDevice.{drives_profile, changers_profile}
+use Rattle.device_server.proofs.SameDevice.{same_device}
 
 place-settled : (objects : ℕ) (place : Option Volume) → unsettled_place (option_map (settled_to objects) place) ≡ unsettled_place place
 place-settled objects None = refl
@@ -35,13 +38,24 @@ drive-settled d objects false = refl
 
 pub settling_changes : SettlingChangesNothingElse
 settling_changes (Drive d) place objects = drive-settled d objects (place == 0)
-settling_changes (Changer e) place objects = sym (ap Changer (element-settled e (element_at e place) objects))
+settling_changes (Changer c) place objects =
+    sym (ap (λ (e : Elements). Changer (record c { elements = e })) (element-settled c.elements (element_at c.elements place) objects))
+
+abbrev unsettled_drive : DriveView → DriveView
+unsettled_drive d = record d { bay = unsettled_place d.bay }
+
+abbrev unsettled_changer : ChangerView → ChangerView
+unsettled_changer c = record c { elements = unsettled_elements c.elements }
 
 pub same_settled : StaysTheSameWhenSettled
-same_settled (Drive d) (Drive b) same = record { kind = refl; profile = drives_profile d b; drives = refl }
+same_settled (Drive d) (Drive b) same =
+    let drives : unsettled_drive d ≡ unsettled_drive b = cc in
+    let hosts : b.hosts ≡ d.hosts = sym (ap (λ (x : DriveView). x.hosts) drives) in
+    same_device (Drive d) (Drive b) refl (ap (option_map (λ (h : HostDrive). h.identity)) hosts) refl
 same_settled (Drive d) (Changer b) same = cc
-same_settled (Changer e) (Drive b) same = cc
-same_settled (Changer e) (Changer b) same =
-    let elements : unsettled_elements e ≡ unsettled_elements b = cc in
-    let marks : e.data_transfer ≡ b.data_transfer = ap (λ x. x.data_transfer) elements in
-    record { kind = refl; profile = changers_profile e b; drives = ap length (sym marks) }
+same_settled (Changer c) (Drive b) same = cc
+same_settled (Changer c) (Changer b) same =
+    let changers : unsettled_changer c ≡ unsettled_changer b = cc in
+    let hosts : b.hosts ≡ c.hosts = sym (ap (λ (x : ChangerView). x.hosts) changers) in
+    let marks : b.elements.data_transfer ≡ c.elements.data_transfer = sym (ap (λ (x : ChangerView). x.elements.data_transfer) changers) in
+    same_device (Changer c) (Changer b) refl (ap (option_map (λ (h : HostChanger). h.identity)) hosts) (ap length marks)

@@ -1,6 +1,9 @@
 -- A drive's volume through each of its commands.
 use Rattle.std.proofs.Common.{◌≡◌, ℕ, ◌+◌, ◌*◌, pos, negsuc, ◌==◌, Bool, true, false, List, [], ◌∷◌, length, inl, inr, Option, Some, None, Result, Ok, Err, refl, sym, subst}
 use Rattle.std.specs.Prelude.{cond, ◌&&◌, ◌/◌, ℤ, IfOk}
+use Rattle.scsi_cdb.specs.declared.host_request.HostRequest.{HostRequest}
+use Rattle.scsi_cdb.specs.declared.host_request.HostRequest.TheVariants as host
+use Rattle.scsi_cdb.specs.declared.kind.Kind.TheVariants.{Drive as drive_kind}
 use Rattle.scsi_cdb.specs.declared.request.Request.{Request}
 use Rattle.scsi_cdb.specs.declared.request.Request.TheVariants as request
 use Rattle.scsi_sense.specs.declared.condition.Condition.{Condition}
@@ -15,10 +18,19 @@ use Rattle.tape_medium.specs.Object.{Object, Block}
 use Rattle.tape_medium.specs.TapeView.{TapeView}
 use Rattle.tape_medium.specs.Tape.{moved_to, ahead, object_at, passed, erased, fits, written, writes, is_block_length, is_whole, blocks, writes_block, writes_blocks, marks, writes_marks}
 use Rattle.tape_medium.specs.Space.{spaced}
+use Rattle.tape_medium.specs.Limits.{block_limit}
+use Rattle.mode_pages.specs.Select as mode
+use Rattle.mode_pages.specs.declared.request.HeaderForm.TheVariants.{Six, Ten}
+use Rattle.mode_pages.specs.declared.values.ModeValues.{ModeValues}
+use Rattle.log_pages.specs.LogSelect as log
+use Rattle.log_pages.specs.declared.change.LogChange.{LogChange}
+use Rattle.device_server.specs.declared.host_drive.HostDrive.{HostDrive}
 use Rattle.device_server.specs.declared.outcome.Outcome.{Outcome}
 use Rattle.device_server.specs.Outcomes.{done, refused}
 use Rattle.device_server.specs.Drive.{DriveView, reads, run, behind_run, reads_fixed, wrote, unless_protected, unless_nothing, is_fixed_transfer, space_code, on_tape, in_volume, in_bay, rewound, loads, drive_step}
-use Rattle.device_server.specs.View.{DeviceView, Drive, Changer, field_fault, stepped, performed}
+use Rattle.device_server.specs.Hosts.{log_select}
+use Rattle.device_server.specs.HostDrive.{mode_of, host_selects, host_loads, not_ready, host_in_volume, host_in_bay, host_log_selects, host_command_step, host_drive_step}
+use Rattle.device_server.specs.View.{DeviceView, Drive, Changer, field_fault, drive_stepped, stepped, performed}
 use Rattle.device_server.specs.Volumes.{volume_at, SameCartridge, SameVolume, SameAt, Keeps, is_write, WritesNothing, DrivesKeepTheirVolume, DrivesKeepTheirTape, ResetsKeepVolumes}
 
 -- THE TAPE
@@ -132,8 +144,8 @@ tape_kept m protected t (request.Space code count) bytes =
 tape_kept m protected t request.Erase bytes =
     either_kept request.Erase t protected (t, refused WriteProtected) (erased t, done []) (stands request.Erase t (refused WriteProtected))
     (changes request.Erase t (erased t, done []) refl refl refl)
-tape_kept m protected t (request.Locate bt cp object) bytes =
-    reads_only (request.Locate bt cp object) t (on_tape m protected t (request.Locate bt cp object) bytes) (record { objects = refl; capacity = refl })
+tape_kept m protected t (request.Locate bt cp object partition) bytes =
+    reads_only (request.Locate bt cp object partition) t (on_tape m protected t (request.Locate bt cp object partition) bytes) (record { objects = refl; capacity = refl })
 tape_kept m protected t r bytes = reads_only r t (on_tape m protected t r bytes) (record { objects = refl; capacity = refl })
 
 -- THE BAY
@@ -188,6 +200,55 @@ drive_kept d (request.ModeSense dbd pc page subpage l) bytes = untouched (reques
 drive_kept d (request.LoadUnload hold eot load) bytes = loads_kept d d.bay (request.LoadUnload hold eot load) load refl
 drive_kept d r bytes = in_bay_kept d d.bay r bytes refl
 
+-- of the hosts' profile
+either_bay : (r : Request) (before : Option Volume) (b : Bool) (x y : DriveView × Outcome) → IsBayKept r before x → IsBayKept r before y → IsBayKept r before (cond b x y)
+either_bay r before true x y p q = p
+either_bay r before false x y p q = q
+
+counted_kept : (r : Request) (d : DriveView) (h : HostDrive) (v : Volume) (step : TapeView × Outcome) → IsKept r v.tape step
+    → IsBayKept r (Some v) (host_in_volume d h v r step)
+counted_kept r d h v step kept = record {
+  cartridge = record { tag = refl; protected = refl; capacity = kept.capacity };
+  volume = λ nothing. record { cartridge = record { tag = refl; protected = refl; capacity = kept.capacity }; objects = kept.objects nothing };
+}
+
+host_bay_kept : (d : DriveView) (h : HostDrive) (o : Option Volume) (r : Request) (bytes : List ℕ) → d.bay ≡ o → IsBayKept r o (host_in_bay d h o r bytes)
+host_bay_kept d h None r bytes is = untouched r d None _ is
+host_bay_kept d h (Some v) r bytes is =
+    either_bay r (Some v) d.loaded (host_in_volume d h v r (on_tape d.block_length v.protected v.tape r bytes)) (d, refused (not_ready h.held))
+    (counted_kept r d h v (on_tape d.block_length v.protected v.tape r bytes) (tape_kept d.block_length v.protected v.tape r bytes))
+    (untouched r d (Some v) (refused (not_ready h.held)) is)
+
+host_loads_kept : (r : Request) (d : DriveView) (h : HostDrive) (o : Option Volume) (hold load : Bool) → d.bay ≡ o → IsBayKept r o (host_loads d h o hold load)
+host_loads_kept r d h None hold load is = untouched r d None _ is
+host_loads_kept r d h (Some v) hold load is = record { cartridge = (rewound_same v).cartridge; volume = λ nothing. rewound_same v }
+
+selects_kept : (r : Request) (d : DriveView) (h : HostDrive) (values : Result ModeValues Condition) → IsBayKept r d.bay (host_selects d h values)
+selects_kept r d h (Ok values) = record { cartridge = held_cartridge d.bay; volume = λ nothing. held_volume d.bay }
+selects_kept r d h (Err condition) = untouched r d d.bay _ refl
+
+log_selects_kept : (r : Request) (d : DriveView) (h : HostDrive) (change : Result LogChange Condition) → IsBayKept r d.bay (host_log_selects d h change)
+log_selects_kept r d h (Ok change) = record { cartridge = held_cartridge d.bay; volume = λ nothing. held_volume d.bay }
+log_selects_kept r d h (Err condition) = untouched r d d.bay _ refl
+
+host_command_kept : (r : Request) (d : DriveView) (h : HostDrive) (command : HostRequest) (bytes : List ℕ) → IsBayKept r d.bay (host_command_step d h command bytes)
+host_command_kept r d h (host.LogSelect pcr sp pc page subpage l) bytes =
+    log_selects_kept r d h (log.selected drive_kind (log_select pcr sp page subpage l) (length bytes))
+host_command_kept r d h (host.ModeSelect10 sp l) bytes = selects_kept r d h (mode.selected (mode_of d h) block_limit Ten sp l bytes)
+host_command_kept r d h command bytes = untouched r d d.bay _ refl
+
+host_drive_kept : (d : DriveView) (h : HostDrive) (r : Request) (bytes : List ℕ) → IsBayKept r d.bay (host_drive_step d h r bytes)
+host_drive_kept d h request.ReadBlockLimits bytes = untouched request.ReadBlockLimits d d.bay _ refl
+host_drive_kept d h (request.ModeSelect sp l) bytes = selects_kept (request.ModeSelect sp l) d h (mode.selected (mode_of d h) block_limit Six sp l bytes)
+host_drive_kept d h (request.ModeSense dbd pc page subpage l) bytes = untouched (request.ModeSense dbd pc page subpage l) d d.bay _ refl
+host_drive_kept d h (request.LoadUnload hold eot load) bytes = host_loads_kept (request.LoadUnload hold eot load) d h d.bay hold load refl
+host_drive_kept d h (request.Host command) bytes = host_command_kept (request.Host command) d h command bytes
+host_drive_kept d h r bytes = host_bay_kept d h d.bay r bytes refl
+
+by_profile_kept : (o : Option HostDrive) (d : DriveView) (r : Request) (bytes : List ℕ) → IsBayKept r d.bay (drive_stepped o d r bytes)
+by_profile_kept None d r bytes = drive_kept d r bytes
+by_profile_kept (Some h) d r bytes = host_drive_kept d h r bytes
+
 -- EACH PLACE
 
 -- at place 0 the bay, and elsewhere nothing
@@ -202,8 +263,8 @@ record IsDriveKept (r : Request) (before : DeviceView) (x : DeviceView × Outcom
 
 stepped_kept : (d : DriveView) (r : Request) (bytes : List ℕ) → IsDriveKept r (Drive d) (stepped (Drive d) r bytes)
 stepped_kept d r bytes =
-    let step = drive_step d r bytes in
-    let kept = drive_kept d r bytes in
+    let step = drive_stepped d.hosts d r bytes in
+    let kept = by_profile_kept d.hosts d r bytes in
     record {
       cartridge = λ place. here_kept SameCartridge d.bay step.0.bay (place == 0) kept.cartridge;
       volume = λ nothing place. here_kept SameVolume d.bay step.0.bay (place == 0) (kept.volume nothing);

@@ -47,7 +47,7 @@ abbrev pub carried : Elements → (source destination : ℕ) → Option MapFault
 carried e source destination (Some fault) = (e, refused (move_condition fault))
 carried e source destination None = moved_alone e (moves e source destination)
 
--- THE STEP of a changer by a command whose fields aren't refused. No command of a changer has data sent with it; a command that a changer
+-- THE STEP of a changer of the default profile by a command whose fields aren't refused. No command of a changer has data sent with it; a command that a changer
 -- doesn't have isn't its own.
 abbrev pub changer_step : Elements → Request → Elements × Outcome
 changer_step e TestUnitReady = (e, done [])

@@ -8,6 +8,7 @@ use Rattle.tape_medium.specs.declared.volume.VolumeTag.{VolumeTag}
 use Rattle.tape_medium.specs.declared.volume.Volume.{Volume}
 use Rattle.device_server.specs.declared.fault.TakeFault.TheVariants as take_fault
 use Rattle.device_server.specs.declared.fault.PutFault.TheVariants as put_fault
+use Rattle.device_server.specs.HostChanger.{spec_changer}
 use Rattle.device_server.specs.View.{DeviceView, Changer, kind_of, drives_of, held_in, taken, put, marked, reset_of}
 use Rattle.device_server.specs.Rows.{asked, gives, checks, sense, volume, block_and_mark}
 
@@ -25,7 +26,7 @@ told_tag = record { 0 = tag_bytes }
 -- what is noted at the data transfer element, and the volumes in the import/export element and in both storage elements
 abbrev pub library : (mark : Option VolumeTag) → (port first second : Option Volume) → DeviceView
 library mark port first second =
-    Changer (record { data_transfer = mark ∷ []; import_export = port ∷ []; storage = first ∷ second ∷ [] })
+    Changer (spec_changer (record { data_transfer = mark ∷ []; import_export = port ∷ []; storage = first ∷ second ∷ [] }))
 
 -- one volume, in the first storage element
 abbrev pub one_volume : VolumeTag → DeviceView
@@ -99,8 +100,8 @@ pub record ModesOfAChanger (a : VolumeTag) : Type 0 where
   pub page : asked (one_volume a) (ModeSense false 0 0x1d 0x00 255) ≡ gives (one_volume a) assignment
   pub all_pages : asked (one_volume a) (ModeSense true 0 0x3f 0x00 24) ≡ gives (one_volume a) assignment
   pub cut : asked (one_volume a) (ModeSense false 0 0x1d 0x00 5) ≡ gives (one_volume a) (0x17 ∷ 0x00 ∷ 0x00 ∷ 0x00 ∷ 0x1d ∷ [])
-  pub without_ports : asked (Changer (record { data_transfer = None ∷ None ∷ []; import_export = []; storage = None ∷ [] })) (ModeSense false 0 0x3f 0x00 255)
-      ≡ gives (Changer (record { data_transfer = None ∷ None ∷ []; import_export = []; storage = None ∷ [] }))
+  pub without_ports : asked (Changer (spec_changer (record { data_transfer = None ∷ None ∷ []; import_export = []; storage = None ∷ [] }))) (ModeSense false 0 0x3f 0x00 255)
+      ≡ gives (Changer (spec_changer (record { data_transfer = None ∷ None ∷ []; import_export = []; storage = None ∷ [] })))
       (0x17 ∷ 0x00 ∷ 0x00 ∷ 0x00 ∷ 0x1d ∷ 0x12 ∷ 0x00 ∷ 0x00 ∷ 0x00 ∷ 0x01 ∷ 0x04 ∷ 0x00 ∷ 0x00 ∷ 0x01
       ∷ 0x02 ∷ 0x00 ∷ 0x00 ∷ 0x00 ∷ 0x01 ∷ 0x00 ∷ 0x00 ∷ 0x02 ∷ 0x00 ∷ 0x00 ∷ [])
   pub saved_values : asked (one_volume a) (ModeSense false 3 0x00 0x01 255)
@@ -180,7 +181,7 @@ pub record PlacesOfAChanger (a b : VolumeTag) : Type 0 where
 -- import/export element
 abbrev pub two_drives : (first second : Option VolumeTag) → (port : Option Volume) → DeviceView
 two_drives first second port =
-    Changer (record { data_transfer = first ∷ second ∷ []; import_export = None ∷ port ∷ []; storage = None ∷ None ∷ None ∷ [] })
+    Changer (spec_changer (record { data_transfer = first ∷ second ∷ []; import_export = None ∷ port ∷ []; storage = None ∷ None ∷ None ∷ [] }))
 
 -- what is held, goes out and is noted there goes by the kind of element
 pub record PlacesOfTwoDrives (a : VolumeTag) : Type 0 where
@@ -203,7 +204,7 @@ pub record PlacesOfTwoDrives (a : VolumeTag) : Type 0 where
 
 -- one data transfer and two storage elements
 abbrev pub two_slots : (mark : Option VolumeTag) → (first second : Option Volume) → DeviceView
-two_slots mark first second = Changer (record { data_transfer = mark ∷ []; import_export = []; storage = first ∷ second ∷ [] })
+two_slots mark first second = Changer (spec_changer (record { data_transfer = mark ∷ []; import_export = []; storage = first ∷ second ∷ [] }))
 
 -- volumes that go in and out at storage elements, and stay where they are else; what goes into a drive or out of it is the target's to move
 pub record SlotsOfAChanger (a b : VolumeTag) : Type 0 where

@@ -1,6 +1,7 @@
 -- A tape drive and its step by each command (SSC-4, "Explicit address command descriptions", "Implicit address command descriptions").
 use Rattle.std.specs.Prelude.{ℕ, ◌+◌, ◌-◌, ◌*◌, ◌/◌, ◌%◌, ◌^◌, ◌==◌, nat_le, zero, suc, Bool, true, false, not, ◌&&◌, ◌||◌, List, [], ◌∷◌, ◌++◌, length, take, replicate, unsigned_abs, Option, Some, None, Result, Ok, Err, if◌then◌else◌}
 use Rattle.std.specs.List.{flat_map}
+use Rattle.std.specs.Option.{option_map}
 use Rattle.scsi_cdb.specs.declared.request.Request.{Request}
 use Rattle.scsi_cdb.specs.declared.request.Request.TheVariants.{TestUnitReady, Rewind, ReadBlockLimits, Read, Write, WriteFilemarks, Space, ModeSelect, Erase, ModeSense, LoadUnload, Locate, ReadPosition}
 use Rattle.scsi_sense.specs.declared.condition.Condition.TheVariants.{MediumNotPresent, InitializingCommandRequired, InvalidFieldInCdb, InvalidCommandOperationCode, WriteProtected, EndOfDataDetected}
@@ -18,19 +19,22 @@ use Rattle.tape_medium.specs.declared.space.Stop.{Stop}
 use Rattle.tape_medium.specs.declared.space.Stop.TheVariants.{Done, AtMark, AtEnd, AtStart}
 use Rattle.tape_medium.specs.declared.fault.TapeFault.{TapeFault}
 use Rattle.tape_medium.specs.declared.volume.Volume.{Volume}
+use Rattle.device_server.specs.declared.host_drive.HostDrive.{HostDrive}
 use Rattle.device_server.specs.declared.outcome.Outcome.{Outcome}
 use Rattle.device_server.specs.Outcomes.{done, set, ended, refused}
 use Rattle.device_server.specs.Senses.{at_mark, at_end_of_data, at_beginning, past_the_end, of_other_length, residue}
 use Rattle.device_server.specs.Mode.{block_length_after, mode_data}
 
--- a drive: the volume in its bay, whether that is loaded, and the block length of its mode, 0 for blocks of any length
+-- a drive: the volume in its bay, whether that is loaded, the block length of its mode, 0 for blocks of any length, and what it keeps besides
+-- if it is of the hosts' profile
 pub record DriveView : Type 0 where
   pub bay : Option Volume
   pub loaded : Bool
   pub block_length : ℕ
+  pub hosts : Option HostDrive
 
 abbrev pub empty_drive : DriveView
-empty_drive = record { bay = None; loaded = false; block_length = 0 }
+empty_drive = record { bay = None; loaded = false; block_length = 0; hosts = None }
 
 -- READING
 
@@ -142,7 +146,7 @@ on_tape block_length protected t (WriteFilemarks wsmk immed count) bytes =
     unless_nothing count t (unless_protected protected t (wrote t count (writes_marks t count)))
 on_tape block_length protected t (Space code count) bytes = space_ended (unsigned_abs count) (spaced (space_code code) t count)
 on_tape block_length protected t Erase bytes = unless_protected protected t (erased t, done [])
-on_tape block_length protected t (Locate bt cp object) bytes = locates object t
+on_tape block_length protected t (Locate bt cp object partition) bytes = locates object t
 on_tape block_length protected t ReadPosition bytes = (t, done (position_data t.position))
 on_tape block_length protected t request bytes = (t, refused InvalidCommandOperationCode)
 
@@ -171,7 +175,7 @@ loads d (Some v) load = (record d { bay = Some (rewound v); loaded = load }, don
 abbrev pub selects : DriveView → (block_length : ℕ) → DriveView × Outcome
 selects d block_length = (record d { block_length = block_length }, set (not (block_length == d.block_length)))
 
--- THE STEP of a drive by a command whose fields aren't refused
+-- THE STEP of a drive of the default profile by a command whose fields aren't refused
 abbrev pub drive_step : DriveView → Request → List ℕ → DriveView × Outcome
 drive_step d ReadBlockLimits bytes = (d, done (0x00 ∷ 0x01 ∷ 0x00 ∷ 0x00 ∷ 0x00 ∷ 0x01 ∷ []))
 drive_step d (ModeSelect sp list_length) bytes = selects d (block_length_after d.block_length list_length bytes)
@@ -180,6 +184,12 @@ drive_step d (ModeSense dbd page_control page subpage allocation_length) bytes =
 drive_step d (LoadUnload hold eot load) bytes = loads d d.bay load
 drive_step d request bytes = in_bay d d.bay request bytes
 
--- a reset of the unit: what is loaded stays so
+-- a reset of the unit: what is loaded stays so; in the hosts' profile compression is on
 abbrev pub drive_reset : DriveView → DriveView
-drive_reset d = record { bay = elim d.bay [ None ↦ None | Some v ↦ Some (rewound v) ]; loaded = d.loaded; block_length = 0 }
+drive_reset d =
+    record {
+      bay = elim d.bay [ None ↦ None | Some v ↦ Some (rewound v) ];
+      loaded = d.loaded;
+      block_length = 0;
+      hosts = option_map (λ (h : HostDrive). record h { compression = true }) d.hosts;
+    }

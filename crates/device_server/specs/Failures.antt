@@ -8,6 +8,7 @@ use Rattle.scsi_sense.specs.declared.condition.Condition.TheVariants.{InternalTa
 use Rattle.scsi_sense.specs.declared.sense.Sense.{Sense}
 use Rattle.tape_medium.specs.Elements.{Elements, Element, DataTransfer, element_at, move_refusal}
 use Rattle.device_server.specs.Drive.{DriveView}
+use Rattle.device_server.specs.HostChanger.{ChangerView}
 use Rattle.device_server.specs.View.{DeviceView, Drive, Changer, performed}
 
 -- whether sense data tells of one
@@ -30,11 +31,11 @@ is_for_drives e request = false
 -- whether a device leaves a command to the drives, which no drive does
 abbrev pub leaves_to_drives : DeviceView → Request → Bool
 leaves_to_drives (Drive d) request = false
-leaves_to_drives (Changer e) request = is_for_drives e request
+leaves_to_drives (Changer c) request = is_for_drives c.elements request
 
 abbrev pub DrivesNeverFail : Type 0
 DrivesNeverFail = (d : DriveView) (request : Request) (bytes : List ℕ) → is_failure (performed (Drive d) request bytes).1.sense ≡ false
 
 abbrev pub ChangersFailForDrives : Type 0
-ChangersFailForDrives = (e : Elements) (request : Request) (bytes : List ℕ) → is_failure (performed (Changer e) request bytes).1.sense ≡
-    is_for_drives e request
+ChangersFailForDrives = (c : ChangerView) (request : Request) (bytes : List ℕ) → is_failure (performed (Changer c) request bytes).1.sense ≡
+    is_for_drives c.elements request

@@ -1,4 +1,5 @@
--- What is refused of a device's commands by the fields of the CDB, and of the data sent with it, alone. The medium isn't looked at.
+-- What is refused of a device's commands by the fields of the CDB, and of the data sent with it, alone, in the default profile. The medium
+-- isn't looked at.
 use Rattle.std.specs.Prelude.{ℕ, ◌==◌, nat_lt, Bool, true, false, not, ◌&&◌, ◌||◌, List, length, Option, Some, None, if◌then◌else◌}
 use Rattle.scsi_cdb.specs.declared.kind.Kind.{Kind}
 use Rattle.scsi_cdb.specs.declared.kind.Kind.TheVariants as kind
@@ -38,15 +39,15 @@ abbrev pub mode_select_fault : (save_pages : Bool) → (list_length : ℕ) → L
 mode_select_fault true list_length bytes = Some InvalidFieldInCdb
 mode_select_fault false list_length bytes = list_fault list_length bytes
 
-abbrev pub field_fault_of : Kind → Request → List ℕ → Option Condition
-field_fault_of kind (Read sili fixed transfer_length) bytes = invalid_where (sili && fixed)
-field_fault_of kind (Write fixed transfer_length) bytes = write_fault fixed transfer_length bytes
-field_fault_of kind (WriteFilemarks wsmk immed count) bytes = invalid_where wsmk
-field_fault_of kind (Space code count) bytes = invalid_where (not (is_space_code code))
-field_fault_of kind (ModeSelect sp list_length) bytes = mode_select_fault sp list_length bytes
-field_fault_of kind (ModeSense dbd page_control page subpage allocation_length) bytes = mode_sense_fault kind page_control page subpage
-field_fault_of kind (LoadUnload hold eot load) bytes = invalid_where (hold || eot)
-field_fault_of kind (Locate bt cp object) bytes = invalid_where (bt || cp)
-field_fault_of kind (MoveMedium transport source destination invert) bytes = invalid_where invert
-field_fault_of kind (ReadElementStatus voltag type_code start count curdata dvcid allocation_length) bytes = invalid_where (nat_lt 4 type_code || dvcid)
-field_fault_of kind request bytes = None
+abbrev pub spec_field_fault : Kind → Request → List ℕ → Option Condition
+spec_field_fault kind (Read sili fixed transfer_length) bytes = invalid_where (sili && fixed)
+spec_field_fault kind (Write fixed transfer_length) bytes = write_fault fixed transfer_length bytes
+spec_field_fault kind (WriteFilemarks wsmk immed count) bytes = invalid_where wsmk
+spec_field_fault kind (Space code count) bytes = invalid_where (not (is_space_code code))
+spec_field_fault kind (ModeSelect sp list_length) bytes = mode_select_fault sp list_length bytes
+spec_field_fault kind (ModeSense dbd page_control page subpage allocation_length) bytes = mode_sense_fault kind page_control page subpage
+spec_field_fault kind (LoadUnload hold eot load) bytes = invalid_where (hold || eot)
+spec_field_fault kind (Locate bt cp object partition) bytes = invalid_where (bt || cp)
+spec_field_fault kind (MoveMedium transport source destination invert) bytes = invalid_where invert
+spec_field_fault kind (ReadElementStatus voltag type_code start count curdata dvcid allocation_length) bytes = invalid_where (nat_lt 4 type_code || dvcid)
+spec_field_fault kind request bytes = None

@@ -4,6 +4,7 @@ use Rattle.scsi_cdb.specs.declared.request.Request.{Request}
 use Rattle.scsi_cdb.specs.declared.request.Request.TheVariants.{TestUnitReady, Write, LoadUnload}
 use Rattle.tape_medium.specs.declared.volume.VolumeTag.{VolumeTag}
 use Rattle.device_server.specs.Drive.{empty_drive}
+use Rattle.device_server.specs.HostChanger.{spec_changer}
 use Rattle.device_server.specs.View.{DeviceView, Drive, Changer, performed, reset_of}
 use Rattle.device_server.specs.Rows.{loaded, unloaded, block_and_mark, tape_of, one_block_read}
 use Rattle.device_server.specs.ChangerRows.{library, cartridge, one_volume, move}
@@ -28,7 +29,7 @@ pub record MarksOfADrive (tag : VolumeTag) : Type 0 where
 pub record MarksOfAChanger (a b : VolumeTag) : Type 0 where
   pub full : marks (library (Some b) None (Some (cartridge a)) None) ≡ Some b ∷ []
   pub empty : marks (one_volume a) ≡ None ∷ []
-  pub two_drives : marks (Changer (record { data_transfer = None ∷ Some a ∷ []; import_export = []; storage = [] })) ≡ None ∷ Some a ∷ []
+  pub two_drives : marks (Changer (spec_changer (record { data_transfer = None ∷ Some a ∷ []; import_export = []; storage = [] }))) ≡ None ∷ Some a ∷ []
   pub ready : marks_after (library (Some b) None (Some (cartridge a)) None) TestUnitReady ≡ Some b ∷ []
   pub moved : marks_after (library (Some b) None (Some (cartridge a)) None) (move 0x400 0x401) ≡ Some b ∷ []
   pub reset : marks (reset_of (library (Some b) None None None)) ≡ Some b ∷ []

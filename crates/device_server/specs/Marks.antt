@@ -6,13 +6,13 @@ use Rattle.scsi_cdb.specs.declared.request.Request.{Request}
 use Rattle.tape_medium.specs.declared.volume.VolumeTag.{VolumeTag}
 use Rattle.tape_medium.specs.declared.volume.Volume.{Volume}
 use Rattle.tape_medium.specs.Elements.{tag_of, first_data_transfer}
-use Rattle.device_server.specs.View.{DeviceView, Drive, Changer, kind_of, drives_of, performed, taken, put, marked, reset_of}
+use Rattle.device_server.specs.View.{DeviceView, Drive, Changer, kind_of, drives_of, performed, taken, put, marked, journeyed, reset_of}
 use Rattle.device_server.specs.Ends.{IsSameDevice}
 
 -- of a drive the tag of the volume in its bay, alone; of a changer the tags noted at its data transfer elements, in their order
 abbrev pub marks : DeviceView → List (Option VolumeTag)
 marks (Drive d) = tag_of d.bay ∷ []
-marks (Changer e) = e.data_transfer
+marks (Changer c) = c.elements.data_transfer
 
 -- a device of the same kind, with as many data transfer elements and the same marks
 pub record KeepsMarks (before after : DeviceView) : Type 0 where
@@ -38,12 +38,15 @@ pub record SetsMark (before after : DeviceView) (place : ℕ) (tag : Option Volu
   pub last : place < first_data_transfer + drives_of before
   pub marks : marks after ≡ slice_set (marks before) (place - first_data_transfer) tag
 
--- COMMANDS AND RESETS change no mark
+-- COMMANDS, RESETS and journeys that are noted change no mark
 abbrev pub CommandsKeepMarks : Type 0
 CommandsKeepMarks = (device : DeviceView) (request : Request) (bytes : List ℕ) → KeepsMarks device (performed device request bytes).0
 
 abbrev pub ResetsKeepMarks : Type 0
 ResetsKeepMarks = (device : DeviceView) → KeepsMarks device (reset_of device)
+
+abbrev pub JourneysKeepMarks : Type 0
+JourneysKeepMarks = (device : DeviceView) (source destination : ℕ) → KeepsMarks device (journeyed device source destination)
 
 -- VOLUMES IN AND OUT change the mark of a drive, and none of a changer
 abbrev pub DrivesGive : Type 0

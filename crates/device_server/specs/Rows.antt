@@ -1,6 +1,8 @@
 -- Worked rows: what a host gets from a drive, byte by byte, and the drive after it.
 use Rattle.std.specs.Prelude.{◌≡◌, ℕ, pos, negsuc, Bool, true, false, List, [], ◌∷◌, ◌++◌, replicate, Option, Some, None, Ok, Err}
 use Rattle.scsi_cdb.specs.declared.kind.Kind.TheVariants as kind
+use Rattle.scsi_cdb.specs.declared.profile.Profile.TheVariants.{Spec}
+use Rattle.scsi_cdb.specs.Kinds.{commands}
 use Rattle.scsi_cdb.specs.declared.request.Request.{Request}
 use Rattle.scsi_cdb.specs.declared.request.Request.TheVariants.{TestUnitReady, ReadBlockLimits, Read, Write, WriteFilemarks, Space, ModeSelect, Erase, ModeSense, LoadUnload, Locate, ReadPosition, MoveMedium, ReadElementStatus}
 use Rattle.scsi_sense.specs.declared.condition.Condition.TheVariants.{InvalidFieldInCdb, InvalidFieldInParameterList, ParameterListLengthError, SavingParametersNotSupported}
@@ -15,7 +17,7 @@ use Rattle.unit_attention.specs.declared.kind.Kind.TheVariants.{ModeParametersCh
 use Rattle.device_server.specs.declared.fault.TakeFault.TheVariants as take_fault
 use Rattle.device_server.specs.declared.fault.PutFault.TheVariants as put_fault
 use Rattle.device_server.specs.declared.outcome.Outcome.{Outcome}
-use Rattle.device_server.specs.Fields.{field_fault_of}
+use Rattle.device_server.specs.FieldFaults.{field_fault_of}
 use Rattle.device_server.specs.Drive.{empty_drive}
 use Rattle.device_server.specs.View.{DeviceView, Drive, kind_of, drives_of, held_in, performed, taken, put, marked, reset_of}
 
@@ -58,14 +60,14 @@ volume tag tape = record { tag = tag; protected = false; tape = tape }
 
 -- a drive with a loaded volume
 abbrev pub loaded : VolumeTag → (block_length : ℕ) → TapeView → DeviceView
-loaded tag block_length tape = Drive (record { bay = Some (volume tag tape); loaded = true; block_length = block_length })
+loaded tag block_length tape = Drive (record { bay = Some (volume tag tape); loaded = true; block_length = block_length; hosts = None })
 
 abbrev pub unloaded : VolumeTag → (block_length : ℕ) → TapeView → DeviceView
-unloaded tag block_length tape = Drive (record { bay = Some (volume tag tape); loaded = false; block_length = block_length })
+unloaded tag block_length tape = Drive (record { bay = Some (volume tag tape); loaded = false; block_length = block_length; hosts = None })
 
 abbrev pub protected : VolumeTag → TapeView → DeviceView
 protected tag tape =
-    Drive (record { bay = Some (record { tag = tag; protected = true; tape = tape }); loaded = true; block_length = 0 })
+    Drive (record { bay = Some (record { tag = tag; protected = true; tape = tape }); loaded = true; block_length = 0; hosts = None })
 
 -- a block of 400 bytes and a filemark
 abbrev pub block_and_mark : (position : ℕ) → TapeView
@@ -111,9 +113,9 @@ pub record SpacesBothWays (tag : VolumeTag) : Type 0 where
       ≡ checks (loaded tag 0 (block_and_mark 1)) [] (sense 0xf0 0x80 0x00 0x00 0x00 0x02 0x00 0x01)
   pub back_to_start : asked (loaded tag 0 (block_and_mark 1)) (Space 0 (negsuc 3))
       ≡ checks (loaded tag 0 (block_and_mark 0)) [] (sense 0xf0 0x40 0x00 0x00 0x00 0x03 0x00 0x04)
-  pub past_the_end : asked (loaded tag 0 (block_and_mark 0)) (Locate false false 3)
+  pub past_the_end : asked (loaded tag 0 (block_and_mark 0)) (Locate false false 3 0)
       ≡ checks (loaded tag 0 (block_and_mark 2)) [] (sense 0x70 0x08 0x00 0x00 0x00 0x00 0x00 0x05)
-  pub located : asked (loaded tag 0 (block_and_mark 0)) (Locate false false 2) ≡ gives (loaded tag 0 (block_and_mark 2)) []
+  pub located : asked (loaded tag 0 (block_and_mark 0)) (Locate false false 2 0) ≡ gives (loaded tag 0 (block_and_mark 2)) []
 
 -- READ POSITION and READ BLOCK LIMITS
 pub record PositionsRead (tag : VolumeTag) : Type 0 where
@@ -156,41 +158,41 @@ pub record ModesOfADrive (tag : VolumeTag) : Type 0 where
 
 -- what is refused by the fields of a command and its data alone
 pub record RefusedFields : Type 0 where
-  pub saved_values : field_fault_of kind.Drive (ModeSense false 3 0x00 0x00 255) [] ≡ Some SavingParametersNotSupported
-  pub saved_before_page : field_fault_of kind.Drive (ModeSense false 3 0x1d 0xff 255) [] ≡ Some SavingParametersNotSupported
-  pub default_values : field_fault_of kind.Drive (ModeSense false 2 0x00 0x00 255) [] ≡ Some InvalidFieldInCdb
-  pub subpage : field_fault_of kind.Drive (ModeSense false 0 0x00 0x01 255) [] ≡ Some InvalidFieldInCdb
-  pub other_page : field_fault_of kind.Drive (ModeSense false 0 0x0f 0x00 255) [] ≡ Some InvalidFieldInCdb
-  pub page_of_changer : field_fault_of kind.Drive (ModeSense false 0 0x1d 0x00 255) [] ≡ Some InvalidFieldInCdb
-  pub page_of_drive : field_fault_of kind.Changer (ModeSense false 0 0x00 0x00 255) [] ≡ Some InvalidFieldInCdb
-  pub no_page : field_fault_of kind.Drive (ModeSense false 0 0x00 0x00 255) [] ≡ None
-  pub all_pages : field_fault_of kind.Drive (ModeSense false 0 0x3f 0x00 255) [] ≡ None
-  pub element_addresses : field_fault_of kind.Changer (ModeSense false 0 0x1d 0x00 255) [] ≡ None
-  pub suppressed_fixed : field_fault_of kind.Drive (Read true true 1) [] ≡ Some InvalidFieldInCdb
-  pub setmarks : field_fault_of kind.Drive (WriteFilemarks true false 0) [] ≡ Some InvalidFieldInCdb
-  pub sequential_marks : field_fault_of kind.Drive (Space 2 (pos 1)) [] ≡ Some InvalidFieldInCdb
-  pub end_of_data : field_fault_of kind.Drive (Space 3 (pos 1)) [] ≡ None
-  pub above_limit : field_fault_of kind.Drive (Write false 65537) (replicate 65537 0) ≡ Some InvalidFieldInCdb
-  pub too_few_bytes : field_fault_of kind.Drive (Write false 2) (1 ∷ []) ≡ Some InvalidFieldInCdb
-  pub held : field_fault_of kind.Drive (LoadUnload true false true) [] ≡ Some InvalidFieldInCdb
-  pub end_of_tape : field_fault_of kind.Drive (LoadUnload false true true) [] ≡ Some InvalidFieldInCdb
-  pub address_type : field_fault_of kind.Drive (Locate true false 0) [] ≡ Some InvalidFieldInCdb
-  pub partition : field_fault_of kind.Drive (Locate false true 0) [] ≡ Some InvalidFieldInCdb
-  pub inverted : field_fault_of kind.Changer (MoveMedium 0 0 0 true) [] ≡ Some InvalidFieldInCdb
-  pub identifiers : field_fault_of kind.Changer (ReadElementStatus false 4 0 1 false true 255) [] ≡ Some InvalidFieldInCdb
-  pub greatest_type : field_fault_of kind.Changer (ReadElementStatus true 4 0 1 true false 255) [] ≡ None
-  pub element_type : field_fault_of kind.Changer (ReadElementStatus false 5 0 1 false false 255) [] ≡ Some InvalidFieldInCdb
+  pub saved_values : field_fault_of (commands Spec kind.Drive) (ModeSense false 3 0x00 0x00 255) [] ≡ Some SavingParametersNotSupported
+  pub saved_before_page : field_fault_of (commands Spec kind.Drive) (ModeSense false 3 0x1d 0xff 255) [] ≡ Some SavingParametersNotSupported
+  pub default_values : field_fault_of (commands Spec kind.Drive) (ModeSense false 2 0x00 0x00 255) [] ≡ Some InvalidFieldInCdb
+  pub subpage : field_fault_of (commands Spec kind.Drive) (ModeSense false 0 0x00 0x01 255) [] ≡ Some InvalidFieldInCdb
+  pub other_page : field_fault_of (commands Spec kind.Drive) (ModeSense false 0 0x0f 0x00 255) [] ≡ Some InvalidFieldInCdb
+  pub page_of_changer : field_fault_of (commands Spec kind.Drive) (ModeSense false 0 0x1d 0x00 255) [] ≡ Some InvalidFieldInCdb
+  pub page_of_drive : field_fault_of (commands Spec kind.Changer) (ModeSense false 0 0x00 0x00 255) [] ≡ Some InvalidFieldInCdb
+  pub no_page : field_fault_of (commands Spec kind.Drive) (ModeSense false 0 0x00 0x00 255) [] ≡ None
+  pub all_pages : field_fault_of (commands Spec kind.Drive) (ModeSense false 0 0x3f 0x00 255) [] ≡ None
+  pub element_addresses : field_fault_of (commands Spec kind.Changer) (ModeSense false 0 0x1d 0x00 255) [] ≡ None
+  pub suppressed_fixed : field_fault_of (commands Spec kind.Drive) (Read true true 1) [] ≡ Some InvalidFieldInCdb
+  pub setmarks : field_fault_of (commands Spec kind.Drive) (WriteFilemarks true false 0) [] ≡ Some InvalidFieldInCdb
+  pub sequential_marks : field_fault_of (commands Spec kind.Drive) (Space 2 (pos 1)) [] ≡ Some InvalidFieldInCdb
+  pub end_of_data : field_fault_of (commands Spec kind.Drive) (Space 3 (pos 1)) [] ≡ None
+  pub above_limit : field_fault_of (commands Spec kind.Drive) (Write false 65537) (replicate 65537 0) ≡ Some InvalidFieldInCdb
+  pub too_few_bytes : field_fault_of (commands Spec kind.Drive) (Write false 2) (1 ∷ []) ≡ Some InvalidFieldInCdb
+  pub held : field_fault_of (commands Spec kind.Drive) (LoadUnload true false true) [] ≡ Some InvalidFieldInCdb
+  pub end_of_tape : field_fault_of (commands Spec kind.Drive) (LoadUnload false true true) [] ≡ Some InvalidFieldInCdb
+  pub address_type : field_fault_of (commands Spec kind.Drive) (Locate true false 0 0) [] ≡ Some InvalidFieldInCdb
+  pub partition : field_fault_of (commands Spec kind.Drive) (Locate false true 0 0) [] ≡ Some InvalidFieldInCdb
+  pub inverted : field_fault_of (commands Spec kind.Changer) (MoveMedium 0 0 0 true) [] ≡ Some InvalidFieldInCdb
+  pub identifiers : field_fault_of (commands Spec kind.Changer) (ReadElementStatus false 4 0 1 false true 255) [] ≡ Some InvalidFieldInCdb
+  pub greatest_type : field_fault_of (commands Spec kind.Changer) (ReadElementStatus true 4 0 1 true false 255) [] ≡ None
+  pub element_type : field_fault_of (commands Spec kind.Changer) (ReadElementStatus false 5 0 1 false false 255) [] ≡ Some InvalidFieldInCdb
 
 -- MODE SELECT's list, in the order of the tests
 pub record RefusedLists : Type 0 where
-  pub saved : field_fault_of kind.Drive (ModeSelect true 12) [] ≡ Some InvalidFieldInCdb
-  pub other_length : field_fault_of kind.Drive (ModeSelect false 12) (replicate 11 0) ≡ Some ParameterListLengthError
-  pub part_of_a_header : field_fault_of kind.Drive (ModeSelect false 3) (replicate 3 0) ≡ Some ParameterListLengthError
-  pub long_descriptor : field_fault_of kind.Drive (ModeSelect false 4) (0 ∷ 0 ∷ 0 ∷ 16 ∷ []) ≡ Some InvalidFieldInParameterList
-  pub no_descriptor : field_fault_of kind.Drive (ModeSelect false 4) (0 ∷ 0 ∷ 0 ∷ 8 ∷ []) ≡ Some ParameterListLengthError
-  pub long_blocks : field_fault_of kind.Drive (ModeSelect false 12) (0 ∷ 0 ∷ 0 ∷ 8 ∷ replicate 5 0 ++ 0x01 ∷ 0x00 ∷ 0x01 ∷ [])
+  pub saved : field_fault_of (commands Spec kind.Drive) (ModeSelect true 12) [] ≡ Some InvalidFieldInCdb
+  pub other_length : field_fault_of (commands Spec kind.Drive) (ModeSelect false 12) (replicate 11 0) ≡ Some ParameterListLengthError
+  pub part_of_a_header : field_fault_of (commands Spec kind.Drive) (ModeSelect false 3) (replicate 3 0) ≡ Some ParameterListLengthError
+  pub long_descriptor : field_fault_of (commands Spec kind.Drive) (ModeSelect false 4) (0 ∷ 0 ∷ 0 ∷ 16 ∷ []) ≡ Some InvalidFieldInParameterList
+  pub no_descriptor : field_fault_of (commands Spec kind.Drive) (ModeSelect false 4) (0 ∷ 0 ∷ 0 ∷ 8 ∷ []) ≡ Some ParameterListLengthError
+  pub long_blocks : field_fault_of (commands Spec kind.Drive) (ModeSelect false 12) (0 ∷ 0 ∷ 0 ∷ 8 ∷ replicate 5 0 ++ 0x01 ∷ 0x00 ∷ 0x01 ∷ [])
       ≡ Some InvalidFieldInParameterList
-  pub longest_blocks : field_fault_of kind.Drive (ModeSelect false 12) (0 ∷ 0 ∷ 0 ∷ 8 ∷ replicate 5 0 ++ 0x01 ∷ 0x00 ∷ 0x00 ∷ [])
+  pub longest_blocks : field_fault_of (commands Spec kind.Drive) (ModeSelect false 12) (0 ∷ 0 ∷ 0 ∷ 8 ∷ replicate 5 0 ++ 0x01 ∷ 0x00 ∷ 0x00 ∷ [])
       ≡ None
 
 abbrev pub tape_of : (blocks position : ℕ) → TapeView
@@ -286,7 +288,7 @@ one_mark tag = record { tag = tag; protected = true; tape = record (blank 10) { 
 
 -- a drive with the first of them
 abbrev pub of_two_marks : VolumeTag → (position : ℕ) → DeviceView
-of_two_marks tag position = Drive (record { bay = Some (two_marks tag position); loaded = true; block_length = 0 })
+of_two_marks tag position = Drive (record { bay = Some (two_marks tag position); loaded = true; block_length = 0; hosts = None })
 
 -- a volume that goes into a bay and out of it is rewound, and one that another is refused for stays
 pub record BayOfADrive (tag : VolumeTag) : Type 0 where

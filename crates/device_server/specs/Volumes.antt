@@ -9,17 +9,17 @@ use Rattle.tape_medium.specs.declared.volume.Volume.{Volume}
 use Rattle.tape_medium.specs.Elements.{element_at, held_in}
 use Rattle.tape_medium.specs.Volumes.{present, volumes}
 use Rattle.device_server.specs.declared.outcome.Outcome.{Outcome}
-use Rattle.device_server.specs.View.{DeviceView, Drive, Changer, kind_of, performed, taken, put, marked, reset_of}
+use Rattle.device_server.specs.View.{DeviceView, Drive, Changer, kind_of, performed, taken, put, marked, journeyed, reset_of}
 
 -- the volume at a place, if there is one: a drive's bay is place 0, a changer's are its storage and import/export elements, by address
 abbrev pub volume_at : DeviceView → (place : ℕ) → Option Volume
 volume_at (Drive d) place = if place == 0 then d.bay else None
-volume_at (Changer e) place = unwrap_or (held_in e (element_at e place)) None
+volume_at (Changer c) place = unwrap_or (held_in c.elements (element_at c.elements place)) None
 
 -- all volumes of a device
 abbrev pub volumes_of : DeviceView → List Volume
 volumes_of (Drive d) = present (d.bay ∷ [])
-volumes_of (Changer e) = volumes e
+volumes_of (Changer c) = volumes c.elements
 
 -- the same cartridge: all but what is on its tape, and where that stands
 pub record SameCartridge (before after : Volume) : Type 0 where
@@ -108,7 +108,7 @@ MovesCarryOne = (device : DeviceView) (transport source destination : ℕ) (inve
 abbrev pub ResetsKeepVolumes : Type 0
 ResetsKeepVolumes = (device : DeviceView) → Keeps SameVolume device (reset_of device)
 
--- VOLUMES IN AND OUT: just the one that is handed out or in. A mark moves none.
+-- VOLUMES IN AND OUT: just the one that is handed out or in. A mark moves none, and so does a journey that is noted.
 abbrev pub TakesOne : Type 0
 TakesOne = (before after : DeviceView) (place : ℕ) (volume : Volume) → taken before place ≡ Ok (volume, after) → GoesOut before after place volume
 
@@ -118,3 +118,6 @@ PutsOne = (before after : DeviceView) (place : ℕ) (volume : Volume) → put be
 abbrev pub MarksMoveNothing : Type 0
 MarksMoveNothing = (before after : DeviceView) (place : ℕ) (tag : Option VolumeTag) → marked before place tag ≡ Ok after
     → (other : ℕ) → volume_at after other ≡ volume_at before other
+
+abbrev pub JourneysMoveNothing : Type 0
+JourneysMoveNothing = (device : DeviceView) (source destination other : ℕ) → volume_at (journeyed device source destination) other ≡ volume_at device other

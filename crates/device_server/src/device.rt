@@ -1,5 +1,6 @@
 use crate::fault::{BadPlace, PutFault, TakeFault};
 use crate::outcome::Outcome;
+use inquiry_data::UnitIdentity;
 use scsi_cdb::{Kind, Profile, Request};
 use std::alloc::{AllocError, Global};
 use tape_medium::{Volume, VolumeTag};
@@ -12,7 +13,7 @@ pub trait DeviceServer: Drop {
     ghost use Rattle.std.specs.Prelude.{◌≡◌, false, None, Ok, Err, IfOk, OnOk, OnErr, IfErr};
     ghost use Rattle.device_server.specs.Failures.{leaves_to_drives};
     ghost use Rattle.device_server.specs.Volumes.{is_move};
-    ghost use Rattle.device_server.specs.View.{DeviceView, kind_of, profile_of, drives_of, field_fault, held_in, performed, taken, put, marked, reset_of};
+    ghost use Rattle.device_server.specs.View.{DeviceView, kind_of, profile_of, identity_of, drives_of, journeyed, field_fault, held_in, performed, taken, put, marked, reset_of};
 
     ghost shown: { Self → DeviceView };
 
@@ -23,6 +24,10 @@ pub trait DeviceServer: Drop {
     /// The profile that it is of, by which and its kind it has commands. It never changes.
     fn profile(&self) -> Profile
         ensures { result ≡ profile_of (shown self.now) };
+
+    /// Which unit it is, where it is of the hosts' profile. It never changes.
+    fn identity(&self) -> Option<UnitIdentity>
+        ensures { result ≡ identity_of (shown self.now) };
 
     /// How many data transfer elements a changer has; 0 for a drive.
     fn drives(&self) -> u16
@@ -69,6 +74,11 @@ pub trait DeviceServer: Drop {
         ensures ok { OnOk result (marked (shown self.old) place tag ≡ Ok (shown self.new)) }
         ensures err { IfErr result (λ fault. marked (shown self.old) place tag ≡ Err fault) }
         ensures same { OnErr result (shown self.new ≡ shown self.old) };
+
+    /// Notes that a volume was carried from one element to another, by a drive or not. It concerns a changer of the hosts' profile alone
+    /// (SMC-3, "READ ELEMENT STATUS command", SOURCE STORAGE ELEMENT ADDRESS).
+    fn note_journey(&mut self, source: u16, destination: u16)
+        ensures { shown self.new ≡ journeyed (shown self.old) source destination };
 
     /// A reset of the unit (SAM-5, "Logical unit reset").
     fn reset(&mut self)

@@ -1,13 +1,15 @@
 ghost use Rattle.std.specs.Prelude.{◌≡◌};
-ghost use Rattle.device_server.specs.Fields.{field_fault_of, invalid_where, is_space_code, is_page_of, mode_sense_fault, write_fault, mode_select_fault};
+ghost use Rattle.device_server.specs.FieldFaults.{field_fault_of};
+ghost use Rattle.device_server.specs.Fields.{spec_field_fault, invalid_where, is_space_code, is_page_of, mode_sense_fault, write_fault, mode_select_fault};
 ghost use Rattle.device_server.specs.Mode.{list_fault};
 
+use crate::host_fields::host_field_fault;
 use crate::mode_layout::{
     ALL_PAGES, BLOCK_DESCRIPTOR, BLOCK_LENGTH, DESCRIPTOR_LENGTH, ELEMENT_ADDRESS_ASSIGNMENT_PAGE,
     MODE_HEADER, NO_PAGE,
 };
 use byteorder::{BigEndian, ByteOrder};
-use scsi_cdb::{Kind, Request};
+use scsi_cdb::{CommandSet, Kind, Profile, Request};
 use scsi_sense::Condition;
 use tape_medium::MAX_BLOCK;
 
@@ -15,12 +17,22 @@ use tape_medium::MAX_BLOCK;
 const SAVED_VALUES: u8 = 3;
 
 /// The greatest element type code.
-const LAST_ELEMENT_TYPE: u8 = 4;
+pub(crate) const LAST_ELEMENT_TYPE: u8 = 4;
 
 /// What is refused of a device's command by the fields of its CDB and of the data sent with it alone, the first in order (SPC-4,
 /// SSC-4 and SMC-3, the clauses of the commands).
-pub fn field_fault(kind: Kind, request: &Request, bytes: &[u8]) -> Option<Condition>
-    ensures { result ≡ field_fault_of kind request.now bytes.now }
+pub fn field_fault(commands: CommandSet, request: &Request, bytes: &[u8]) -> Option<Condition>
+    ensures { result ≡ field_fault_of commands request.now bytes.now }
+{
+    match commands.profile {
+        Profile::Spec => spec_field_fault(commands.kind, request, bytes),
+        Profile::Hosts => host_field_fault(commands.kind, request, bytes),
+    }
+}
+
+/// The same in the default profile.
+pub(crate) fn spec_field_fault(kind: Kind, request: &Request, bytes: &[u8]) -> Option<Condition>
+    ensures { result ≡ spec_field_fault kind request.now bytes.now }
 {
     match request {
         Request::Read {
@@ -58,6 +70,7 @@ pub fn field_fault(kind: Kind, request: &Request, bytes: &[u8]) -> Option<Condit
             block_address_type,
             change_partition,
             logical_object_identifier: _,
+            partition: _,
         } => invalid_where(*block_address_type || *change_partition),
         Request::MoveMedium { invert, .. } => invalid_where(*invert),
         Request::ReadElementStatus {
@@ -81,7 +94,7 @@ pub fn field_fault(kind: Kind, request: &Request, bytes: &[u8]) -> Option<Condit
     }
 }
 
-fn invalid_where(wrong: bool) -> Option<Condition>
+pub(crate) fn invalid_where(wrong: bool) -> Option<Condition>
     ensures { result ≡ invalid_where wrong }
 {
     if wrong {

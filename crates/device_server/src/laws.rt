@@ -3,35 +3,40 @@
 ghost use Rattle.tape_medium.specs.declared.volume.VolumeTag.{VolumeTag};
 ghost use Rattle.device_server.specs.Rows.{ReadsOfOtherLength, SuppressedLengths, SpacesBothWays, PositionsRead, ModesOfADrive, RefusedFields, RefusedLists, FixedTransfers, RefusedWrites, VolumesOfADrive, BayOfADrive};
 ghost use Rattle.device_server.specs.ChangerRows.{StatusOfAChanger, ModesOfAChanger, MovesOfAChanger, MovesOfADrive, PlacesOfAChanger, PlacesOfTwoDrives, SlotsOfAChanger, MovesByMarks};
-ghost use Rattle.device_server.specs.Ends.{EndsItsOwnWay, StaysTheSameDevice, StaysTheSameByReset};
-ghost use Rattle.device_server.specs.Marks.{CommandsKeepMarks, ResetsKeepMarks, DrivesGive, DrivesGet, ChangersGive, ChangersGet, MarksOne, EachIsMarked};
+ghost use Rattle.device_server.specs.Ends.{EndsItsOwnWay, SpecTellsOfModes, StaysTheSameDevice, StaysTheSameByReset, StaysTheSameByJourneys};
+ghost use Rattle.device_server.specs.Marks.{CommandsKeepMarks, ResetsKeepMarks, JourneysKeepMarks, DrivesGive, DrivesGet, ChangersGive, ChangersGet, MarksOne, EachIsMarked};
 ghost use Rattle.device_server.specs.MarkRows.{MarksOfADrive, MarksOfAChanger};
-ghost use Rattle.device_server.specs.Volumes.{DrivesKeepTheirVolume, DrivesKeepTheirTape, ChangersStay, MovesCarryOne, ResetsKeepVolumes, TakesOne, PutsOne, MarksMoveNothing};
+ghost use Rattle.device_server.specs.Volumes.{DrivesKeepTheirVolume, DrivesKeepTheirTape, ChangersStay, MovesCarryOne, ResetsKeepVolumes, TakesOne, PutsOne, MarksMoveNothing, JourneysMoveNothing};
 ghost use Rattle.device_server.specs.VolumeRows.{VolumeOfADrive, SameVolumes, VolumesOfAChanger};
 
 /// Reads of one block that ask for more or fewer bytes than it has, and reads at a filemark and at the end of data.
+#[tactic(auto, unfolding(crate::specs::View::profile_of))]
 pub fn reads_of_other_length()
     ensures told { (tag : VolumeTag) → ReadsOfOtherLength tag }
     ensures suppressed { (tag : VolumeTag) → SuppressedLengths tag }
 {}
 
 /// Transfers in blocks of the mode's length.
+#[tactic(auto, unfolding(crate::specs::View::profile_of))]
 pub fn fixed_transfers()
     ensures { (tag : VolumeTag) → FixedTransfers tag }
 {}
 
 /// Writes past the capacity and on a protected volume.
+#[tactic(auto, unfolding(crate::specs::View::profile_of))]
 pub fn refused_writes()
     ensures { (tag : VolumeTag) → RefusedWrites tag }
 {}
 
 /// SPACE and LOCATE over a block and a filemark, and READ POSITION.
+#[tactic(auto, unfolding(crate::specs::View::profile_of))]
 pub fn positions()
     ensures spaces { (tag : VolumeTag) → SpacesBothWays tag }
     ensures told { (tag : VolumeTag) → PositionsRead tag }
 {}
 
 /// MODE SELECT, MODE SENSE and a reset.
+#[tactic(auto, unfolding(crate::specs::View::profile_of))]
 pub fn modes()
     ensures { (tag : VolumeTag) → ModesOfADrive tag }
 {}
@@ -43,11 +48,13 @@ pub fn refused_fields()
 {}
 
 /// Volumes that go in and out, and are loaded and unloaded.
+#[tactic(auto, unfolding(crate::specs::View::profile_of))]
 pub fn volumes()
     ensures { (tag : VolumeTag) → VolumesOfADrive tag }
 {}
 
 /// Volumes that are put and taken where no host asks, at elements and in a bay, and moves by the marks of drives.
+#[tactic(auto, unfolding(crate::specs::View::profile_of))]
 pub fn places()
     ensures bay { (tag : VolumeTag) → BayOfADrive tag }
     ensures elements { (a : VolumeTag) → PlacesOfTwoDrives a }
@@ -56,48 +63,58 @@ pub fn places()
 {}
 
 /// READ ELEMENT STATUS, and the commands that a changer is always ready for.
+#[tactic(auto, unfolding(crate::specs::View::profile_of))]
 pub fn status_of_a_changer()
     ensures { (a : VolumeTag) → StatusOfAChanger a }
 {}
 
 /// MODE SENSE of a changer.
+#[tactic(auto, unfolding(crate::specs::View::profile_of))]
 pub fn modes_of_a_changer()
     ensures { (a : VolumeTag) → ModesOfAChanger a }
 {}
 
 /// MOVE MEDIUM between storage and import/export elements, and of a drive.
+#[tactic(auto, unfolding(crate::specs::View::profile_of))]
 pub fn moves_of_a_changer()
     ensures elements { (a b : VolumeTag) → MovesOfAChanger a b }
     ensures drives { (a b : VolumeTag) → MovesOfADrive a b }
 {}
 
 /// The places of a changer.
+#[tactic(auto, unfolding(crate::specs::View::profile_of))]
 pub fn places_of_a_changer()
     ensures { (a b : VolumeTag) → PlacesOfAChanger a b }
 {}
 
-/// Law: a device ends each command GOOD without sense data or by CHECK CONDITION with it, and only a MODE SELECT that is GOOD
-/// changes the mode parameters.
+/// Law: a device ends each command GOOD without sense data or by CHECK CONDITION with it, and only one that is GOOD tells other nexuses
+/// something. In the default profile that is a MODE SELECT that changed the mode parameters. In the hosts' profile it is also a LOG SELECT
+/// that reset counters, and a LOAD UNLOAD that made a volume ready.
 pub fn ends_its_own_way()
-    ensures { EndsItsOwnWay }
+    ensures ends { EndsItsOwnWay }
+    ensures spec { SpecTellsOfModes }
 {}
 
-/// Law: a device stays of its kind and profile, with as many data transfer elements, whatever it carries out and through a reset.
+/// Law: a device stays of its kind, profile and identity, with as many data transfer elements, whatever it carries out, through a reset and
+/// whatever is carried to and fro.
 pub fn stays_the_same_device()
     ensures performed { StaysTheSameDevice }
     ensures reset { StaysTheSameByReset }
+    ensures journey { StaysTheSameByJourneys }
 {}
 
 /// The marks of drives and changers: the tag of what is in a bay, and the tags noted at data transfer elements.
+#[tactic(auto, unfolding(crate::specs::View::profile_of))]
 pub fn marks_of_devices()
     ensures drives { (tag : VolumeTag) → MarksOfADrive tag }
     ensures changers { (a b : VolumeTag) → MarksOfAChanger a b }
 {}
 
-/// Law: no command and no reset changes what a changer notes of its drives, or takes the volume out of a drive.
+/// Law: no command, no reset and no journey that is noted changes what a changer notes of its drives, or takes the volume out of a drive.
 pub fn marks_stay()
     ensures performed { CommandsKeepMarks }
     ensures reset { ResetsKeepMarks }
+    ensures journey { JourneysKeepMarks }
 {}
 
 /// Law: a volume that goes out of a drive or into it is the one that its mark tells, before or after. In and out of a changer's own
@@ -112,6 +129,7 @@ pub fn marks_follow_volumes()
 {}
 
 /// The volumes of drives and changers, each at its place, and what of a volume is the same.
+#[tactic(auto, unfolding(crate::specs::View::profile_of))]
 pub fn volumes_of_devices()
     ensures drives { (tag : VolumeTag) → VolumeOfADrive tag }
     ensures same { (tag : VolumeTag) → SameVolumes tag }
@@ -133,6 +151,7 @@ pub fn volumes_go_in_and_out()
     ensures takes { TakesOne }
     ensures puts { PutsOne }
     ensures marks { MarksMoveNothing }
+    ensures journeys { JourneysMoveNothing }
 {}
 
 ghost use Rattle.device_server.specs.FailureRows.{FailuresOfAChanger};
@@ -153,10 +172,67 @@ pub fn fails_only_for_drives()
 ghost use Rattle.device_server.specs.Settled.{SettlingChangesNothingElse, StaysTheSameWhenSettled};
 ghost use Rattle.device_server.specs.SettledRows.{SettledDevices};
 
-/// Law: settling a volume changes nothing else of a device, and a device of which nothing else changed is of its kind and
-/// profile still, with as many data transfer elements. What it does to a drive's volume and to a changer's.
+/// Law: settling a volume changes nothing else of a device, and a device of which nothing else changed is of its kind, profile and
+/// identity still, with as many data transfer elements. What it does to a drive's volume and to a changer's.
 pub fn settling_changes_nothing_else()
     ensures changes { SettlingChangesNothingElse }
     ensures same { StaysTheSameWhenSettled }
     ensures rows { (tag : VolumeTag) → SettledDevices tag }
+{}
+
+ghost use Rattle.device_server.specs.HostRows.{ReadinessForHosts, PositionsForHosts, ModesForHosts, CountersForHosts, LogsForHosts, CommandsForHosts};
+ghost use Rattle.device_server.specs.HostChangerRows.{JourneysForHosts, IdentitiesForHosts, AnswersOfAHostsChanger};
+
+/// A drive of the hosts' profile: volumes that are ejected, held and loaded, and positions.
+#[tactic(auto, unfolding(crate::specs::View::profile_of))]
+pub fn readiness_for_hosts()
+    ensures readiness { (tag : VolumeTag) → ReadinessForHosts tag }
+    ensures positions { (tag : VolumeTag) → PositionsForHosts tag }
+{}
+
+/// Its modes.
+#[tactic(auto, unfolding(crate::specs::View::profile_of, mode_pages::specs::DriveData::pages_shown, mode_pages::specs::Select::pages_taken))]
+pub fn modes_for_hosts()
+    ensures { (tag : VolumeTag) → ModesForHosts tag }
+{}
+
+/// Its counters, log pages and lists of commands.
+#[tactic(auto, unfolding(crate::specs::View::profile_of, log_pages::specs::Parameters::parameters_from, log_pages::specs::Pages::tape_alert_flags, supported_commands::specs::Commands::table))]
+pub fn logs_for_hosts()
+    ensures counters { (tag : VolumeTag) → CountersForHosts tag }
+    ensures logs { (tag : VolumeTag) → LogsForHosts tag }
+    ensures commands { CommandsForHosts }
+{}
+
+/// A changer of the hosts' profile: from where volumes came, and which drives there are.
+#[tactic(auto, unfolding(crate::specs::View::profile_of, hex::specs::Hex::encode_with))]
+pub fn journeys_for_hosts()
+    ensures journeys { (a : VolumeTag) → JourneysForHosts a }
+    ensures identities { (a : VolumeTag) → IdentitiesForHosts a }
+{}
+
+/// Its modes, log pages and lists of commands.
+#[tactic(auto, unfolding(crate::specs::View::profile_of, mode_pages::specs::ChangerData::pages_shown, supported_commands::specs::Commands::table))]
+pub fn answers_of_a_hosts_changer()
+    ensures { (a : VolumeTag) → AnswersOfAHostsChanger a }
+{}
+
+ghost use Rattle.device_server.specs.ByProfile.{FieldsOfSpec, DrivesOfSpec, ChangersOfSpec, IdentitiesAreOfHosts, FieldsDecideHostCommands, FieldsDecideModeSelect, FieldsDecideModeSense, ModeSelectTellsChanges};
+
+/// Law: a device without an identity is of the default profile. What fields refuse there, and the steps of its drives and changers, are the
+/// definitions that know of no other profile.
+pub fn default_profile_is_as_it_was()
+    ensures fields { FieldsOfSpec }
+    ensures drives { DrivesOfSpec }
+    ensures changers { ChangersOfSpec }
+    ensures identities { IdentitiesAreOfHosts }
+{}
+
+/// Law: a drive of the hosts' profile carries out each command that this profile alone has, each MODE SELECT and each MODE SENSE, unless
+/// fields refuse it. A MODE SELECT tells the others just where it changed a value.
+pub fn fields_decide_for_hosts()
+    ensures commands { FieldsDecideHostCommands }
+    ensures mode_select { FieldsDecideModeSelect }
+    ensures mode_sense { FieldsDecideModeSense }
+    ensures told { ModeSelectTellsChanges }
 {}

@@ -12,13 +12,15 @@ pub struct Outcome {
     pub sense: Option<Sense>,
     /// The data for the sender.
     pub payload: Payload,
-    /// What every other nexus is to be told: of a MODE SELECT that it changed the mode parameters.
+    /// What every other nexus is to be told: of a MODE SELECT that it changed the mode parameters; in the hosts' profile of a LOG SELECT that
+    /// it reset counters, and of a LOAD UNLOAD that it made a volume ready.
     pub told: Option<Kind>,
 }
 
 impl Outcome {
-    ghost use Rattle.std.specs.Prelude.{◌≡◌};
-    ghost use Rattle.device_server.specs.Outcomes.{done, set, ended, refused};
+    ghost use Rattle.std.specs.Prelude.{◌≡◌, ◌≤◌, length, Ok, Err, IfOk, MatchResult};
+    ghost use Rattle.device_server.specs.Limits.{data_limit};
+    ghost use Rattle.device_server.specs.Outcomes.{done, set, tells, ended, refused, answers};
 
     /// GOOD, with data.
     pub fn good(payload: Payload) -> Outcome
@@ -41,9 +43,31 @@ impl Outcome {
         } else {
             None
         };
+        Outcome::tells(alloc, told)
+    }
+
+    /// GOOD without data, with what every other nexus is told.
+    pub fn tells(alloc: Global, told: Option<Kind>) -> Outcome
+        ensures { result ≡ tells told }
+    {
         Outcome {
             told,
             ..Outcome::good(Payload::none(alloc))
+        }
+    }
+
+    /// GOOD with the data that an allocation length leaves, in bytes, or CHECK CONDITION.
+    pub fn answers(
+        alloc: Global,
+        allocation_length: usize,
+        answer: Result<Vec<u8>, Condition>,
+    ) -> Outcome
+        requires { IfOk answer (λ bytes. length bytes.items ≤ data_limit) }
+        ensures { MatchResult answer (λ bytes. result ≡ answers allocation_length (Ok bytes.items)) (λ condition. result ≡ answers allocation_length (Err condition)) }
+    {
+        match answer {
+            Ok(bytes) => Outcome::good(Payload::of(bytes).cut(allocation_length)),
+            Err(condition) => Outcome::check(alloc, condition),
         }
     }
 

@@ -6,7 +6,7 @@ use Rattle.tape_medium.specs.Rows.{cartridge}
 use Rattle.inquiry_data.specs.declared.library_number.LibraryNumber.{LibraryNumber}
 use Rattle.inquiry_data.specs.Identity.{library}
 use Rattle.element_sources.specs.declared.status_request.StatusRequest.{StatusRequest}
-use Rattle.element_sources.specs.Sources.{Sources, none_known, source_moved}
+use Rattle.element_sources.specs.Sources.{Sources, none_known, source_known, source_moved}
 
 abbrev pub one_library : LibraryNumber
 one_library = library 0x1A2B3C4D
@@ -59,3 +59,7 @@ crossed =
 
 abbrev pub crossed_sources : Sources
 crossed_sources = source_moved (source_moved (none_known 2 0 2) 0x401 0x100) 0x400 0x101
+
+-- a library that is started with a volume in its drive that was in 0402h before
+abbrev pub started_sources : Sources
+started_sources = source_known (none_known 1 1 3) 0x100 0x402

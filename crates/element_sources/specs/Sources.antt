@@ -70,3 +70,12 @@ source_carried s address (Some from) (Some to) = source_set (source_set s from N
 -- A MOVE MEDIUM that was done; nothing changes where an address names none of the elements.
 abbrev pub source_moved : Sources → (source destination : ℕ) → Sources
 source_moved s source destination = source_carried s source (place_at s source) (place_at s destination)
+
+-- a source that was known before
+abbrev pub source_known_in : Sources → Option Place → (source : ℕ) → Sources
+source_known_in s None source = s
+source_known_in s (Some place) source = source_set s place (Some source)
+
+-- At a start: the source of the volume in the element with an address; nothing changes where the address names none of the elements.
+abbrev pub source_known : Sources → (address source : ℕ) → Sources
+source_known s address source = source_known_in s (place_at s address) source

@@ -1,11 +1,11 @@
 //! Laws of the definitions, and worked rows that they compute to. Each function has an empty body: its clauses are what is proved.
 ghost use Rattle.std.specs.Prelude.{◌≡◌, ◌∷◌, ◌++◌, [], Some, None, replicate, true, false};
 ghost use Rattle.tape_medium.specs.Elements.{empty_elements};
-ghost use Rattle.element_sources.specs.Sources.{none_known, source_at, source_moved};
+ghost use Rattle.element_sources.specs.Sources.{none_known, source_at, source_known, source_moved};
 ghost use Rattle.element_sources.specs.Journeys.{OriginsStayKnown, StartsKnown, DrivesHaveOrigins, OthersStay, SourceIsLeft};
 ghost use Rattle.element_sources.specs.HostStatus.{host_status};
 ghost use Rattle.element_sources.specs.Laws.{PlainFormIsDefault, DescriptorsDifferInTwoBytes, StatusDiffersInTwoBytes};
-ghost use Rattle.element_sources.specs.Rows.{one_library, second_volume, asked, in_drive, in_drive_sources, after_drive, after_drive_sources, crossed, crossed_sources};
+ghost use Rattle.element_sources.specs.Rows.{one_library, second_volume, asked, in_drive, in_drive_sources, after_drive, after_drive_sources, crossed, crossed_sources, started_sources};
 
 /// Law: a move changes the sources of its two elements alone, and leaves none where it took the volume.
 pub fn moves_change_two_sources()
@@ -117,7 +117,7 @@ pub fn worked_types()
         ++ 0x01 ∷ 0x00 ∷ 0x08 ∷ 0x00 ∷ 0x00 ∷ 0x00 ∷ 0x11 ∷ 0x00 ∷ 0x00 ∷ 0x00 ∷ 0x00 ∷ 0x00 ∷ 0x00 ∷ 0x00 ∷ 0x00 ∷ 0x00 ∷ [] }
 {}
 
-/// Worked rows: sources after moves, of elements of one drive, one import/export and three storage elements.
+/// Worked rows: sources after moves and at a start, of elements of one drive, one import/export and three storage elements.
 pub fn worked_sources()
     ensures none { source_at (none_known 1 1 3) 0x401 ≡ None }
     ensures in_drive { source_at in_drive_sources 0x100 ≡ Some 0x401 }
@@ -130,4 +130,8 @@ pub fn worked_sources()
     ensures no_such_source { source_moved in_drive_sources 0x403 0x100 ≡ in_drive_sources }
     ensures no_such_destination { source_moved in_drive_sources 0x100 0x201 ≡ in_drive_sources }
     ensures medium_transport { source_moved in_drive_sources 0x100 0x000 ≡ in_drive_sources }
+    ensures started { source_at started_sources 0x100 ≡ Some 0x402 }
+    ensures started_elsewhere { source_at started_sources 0x402 ≡ None }
+    ensures unloaded { source_at (source_moved started_sources 0x100 0x401) 0x401 ≡ Some 0x402 }
+    ensures no_such_element { source_known (none_known 1 1 3) 0x101 0x402 ≡ none_known 1 1 3 }
 {}

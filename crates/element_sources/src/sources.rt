@@ -2,7 +2,7 @@
 
 ghost use Rattle.std.specs.Prelude.{◌≡◌, ◌≤◌, IfOk, IfSome, Some, None, replicate};
 ghost use Rattle.element_map.specs.Limits.{drive_limit, portal_limit, slot_limit};
-ghost use Rattle.element_sources.specs.Sources.{none_known, place_at, IsPlace, source_at, source_at_place, source_set, source_moved};
+ghost use Rattle.element_sources.specs.Sources.{none_known, place_at, IsPlace, source_at, source_at_place, source_known, source_set, source_moved};
 
 use crate::place::{Place, number_among};
 use std::alloc::{AllocError, Global};
@@ -57,6 +57,16 @@ impl ElementSources {
         ensures { result ≡ source_at self.now address }
     {
         self.source_at_place(self.place(address)?)
+    }
+
+    /// Notes from where the volume in an element came before the start, as far as that is kept. Where the address names none of the elements,
+    /// nothing changes.
+    pub fn know_source(&mut self, address: u16, source: u16)
+        ensures { self.new ≡ source_known self.old address source }
+    {
+        if let Some(place) = self.place(address) {
+            self.set_source(place, Some(source));
+        }
     }
 
     /// Notes a MOVE MEDIUM that was done. The source of the volume at its destination is the element that it comes from, or where that is a

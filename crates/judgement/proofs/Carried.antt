@@ -15,11 +15,11 @@ use Rattle.permit_tables.specs.declared.pr_fault.PrFault.{PrFault}
 use Rattle.permit_tables.specs.declared.cell.Cell.{Cell}
 use Rattle.audit_log.specs.declared.stage.Stage.TheVariants as stage
 use Rattle.audit_log.specs.declared.stage.Stage.TheVariants.{Fields}
-use Rattle.device_server.specs.View.{DeviceView, kind_of, field_fault, performed}
+use Rattle.device_server.specs.View.{DeviceView, field_fault, performed}
 use Rattle.judgement.specs.declared.command.Command.{Command}
 use Rattle.judgement.specs.declared.command.Command.TheVariants.{ReserveOut, ReserveIn, Inquiry, ReportLuns, RequestSense, Prevent, Device}
 use Rattle.judgement.specs.Conditions.{condition_of_refusal}
-use Rattle.judgement.specs.UnitData.{inquiry_data, selected_luns}
+use Rattle.judgement.specs.UnitData.{inquiry_of, selected_luns}
 use Rattle.judgement.specs.declared.reply.Reply.{Reply}
 use Rattle.judgement.specs.Replies.{check, good, data_reply, IsWhole}
 use Rattle.judgement.specs.UnitStateView.{UnitStateView}
@@ -35,11 +35,12 @@ use Rattle.device_server.proofs.Outcomes.{performed_own}
 use Rattle.device_server.proofs.MarkLemmas.{commands_keep_marks}
 use Rattle.judgement.proofs.Ways.{by_let_through, by_ways}
 
--- a present with a device of the same kind and marks, its number and its target's units as they were
+-- a present with a device of the same kind and marks, its number, its target's units and their profile as they were
 pub record IsSame (u v : JudgedUnit) : Type 0 where
   pub device : KeepsMarks u.device v.device
   pub lun : v.state.lun ≡ u.state.lun
   pub units : v.state.units ≡ u.state.units
+  pub profile : v.state.profile ≡ u.state.profile
 
 -- of a command, or of bytes that decode to none: the unit stays the same one, and its reservations are what the history says
 pub record IsKept (u : JudgedUnit) (n : Nexus) (c : Result Command Condition) (x : JudgedUnit × Decision × Reply) : Type 0 where
@@ -52,10 +53,10 @@ pub record IsCarried (u : JudgedUnit) (n : Nexus) (c : Command) (x : JudgedUnit 
   pub whole : IsWhole x.2.status x.2.sense
 
 same_device : (d : DeviceView) → KeepsMarks d d
-same_device d = record { device = record { kind = refl; profile = refl; drives = refl }; marks = refl }
+same_device d = record { device = record { kind = refl; profile = refl; identity = refl; drives = refl }; marks = refl }
 
 same_as : (u : JudgedUnit) → IsSame u u
-same_as u = record { device = same_device u.device; lun = refl; units = refl }
+same_as u = record { device = same_device u.device; lun = refl; units = refl; profile = refl }
 
 module _ (u : JudgedUnit) (n : Nexus) where
   -- a refusal that changes nothing
@@ -69,7 +70,7 @@ module _ (u : JudgedUnit) (n : Nexus) where
   data_is at c None l h = record { state = record { same = same_as u; reservations = sym (h CheckCondition) }; whole = inr (refl, refl) }
 
   sensed_is : (at : Cell) (l : ℕ) (o : Option Kind) → let x : UnitStateView × Decision × Reply = sensed u.state n l o in IsCarried u n (RequestSense false l) (at_cell at (record u { state = x.0 }, x.1, x.2))
-  sensed_is at l (Some kind) = record { state = record { same = record { device = same_device u.device; lun = refl; units = refl }; reservations = refl }; whole = inl (refl, refl) }
+  sensed_is at l (Some kind) = record { state = record { same = record { device = same_device u.device; lun = refl; units = refl; profile = refl }; reservations = refl }; whole = inl (refl, refl) }
   sensed_is at l None = record { state = record { same = same_as u; reservations = refl }; whole = inl (refl, refl) }
 
   -- PREVENT ALLOW MEDIUM REMOVAL, by whether it says 0, and whether it says 1
@@ -80,13 +81,13 @@ module _ (u : JudgedUnit) (n : Nexus) where
       else (u, at_stage Fields, check InvalidFieldInCdb)
 
   prevents_is : (at : Cell) (p : ℕ) (zero one : Bool) → IsCarried u n (Prevent p) (at_cell at (prevents_by zero one))
-  prevents_is at p true one = record { state = record { same = record { device = same_device u.device; lun = refl; units = refl }; reservations = refl }; whole = inl (refl, refl) }
-  prevents_is at p false true = record { state = record { same = record { device = same_device u.device; lun = refl; units = refl }; reservations = refl }; whole = inl (refl, refl) }
+  prevents_is at p true one = record { state = record { same = record { device = same_device u.device; lun = refl; units = refl; profile = refl }; reservations = refl }; whole = inl (refl, refl) }
+  prevents_is at p false true = record { state = record { same = record { device = same_device u.device; lun = refl; units = refl; profile = refl }; reservations = refl }; whole = inl (refl, refl) }
   prevents_is at p false false = checks at (Prevent p) (at_stage Fields) InvalidFieldInCdb refl
 
   telling_is : (d : DeviceView) (told : Option Kind) → KeepsMarks u.device d → IsSame u (record { device = d; state = after_telling u.state n told }) × ((after_telling u.state n told).reservations ≡ u.state.reservations)
-  telling_is d None h = (record { device = h; lun = refl; units = refl }, refl)
-  telling_is d (Some kind) h = (record { device = h; lun = refl; units = refl }, refl)
+  telling_is d None h = (record { device = h; lun = refl; units = refl; profile = refl }, refl)
+  telling_is d (Some kind) h = (record { device = h; lun = refl; units = refl; profile = refl }, refl)
 
   steps_is : (at : Cell) (r : Request) (bytes : List ℕ) (prevented : Bool)
       → IsCarried u n (Device r) (at_cell at (cond prevented (u, at_stage stage.Device, check MediumRemovalPrevented) (steps u n (performed u.device r bytes))))
@@ -107,10 +108,10 @@ module _ (u : JudgedUnit) (n : Nexus) where
   carried_is at (ReserveOut p) bytes =
       elim (refusal u.state.reservations n p) as (λ (o : Option PrFault). IsCarried u n (ReserveOut p) (at_cell at (elim o [ Some fault ↦ (u, at_stage Fields, check (condition_of_refusal fault)) | None ↦ (record u { state = accepted u.state n p }, at_stage stage.Device, good []) ]))) [
         | Some fault ↦ checks at (ReserveOut p) (at_stage Fields) (condition_of_refusal fault) refl
-        | None ↦ record { state = record { same = record { device = same_device u.device; lun = refl; units = refl }; reservations = refl }; whole = inl (refl, refl) }
+        | None ↦ record { state = record { same = record { device = same_device u.device; lun = refl; units = refl; profile = refl }; reservations = refl }; whole = inl (refl, refl) }
       ]
   carried_is at (ReserveIn a l) bytes = record { state = record { same = same_as u; reservations = refl }; whole = inl (refl, refl) }
-  carried_is at (Inquiry e p l) bytes = data_is at (Inquiry e p l) (inquiry_data (kind_of u.device) u.state.lun e p) l (λ s. refl)
+  carried_is at (Inquiry e p l) bytes = data_is at (Inquiry e p l) (inquiry_of u.device u.state.lun n.port e p) l (λ s. refl)
   carried_is at (ReportLuns s l) bytes = data_is at (ReportLuns s l) (selected_luns u.state.units s) l (λ t. refl)
   carried_is at (RequestSense true l) bytes = checks at (RequestSense true l) (at_stage Fields) InvalidFieldInCdb refl
   carried_is at (RequestSense false l) bytes = sensed_is at l (pending_of u.state.slots n)
@@ -131,7 +132,7 @@ nothing_added v n (Prevent p) s h = refl
 nothing_added v n (Device r) s h = refl
 
 told_is : (u : JudgedUnit) (n : Nexus) (c : Command) (kind : Kind) (f : Decision) → IsKept u n (Ok c) (tells u n kind f)
-told_is u n c kind f = record { same = record { device = same_device u.device; lun = refl; units = refl }; reservations = nothing_added u.state.reservations n c CheckCondition (λ e. cc) }
+told_is u n c kind f = record { same = record { device = same_device u.device; lun = refl; units = refl; profile = refl }; reservations = nothing_added u.state.reservations n c CheckCondition (λ e. cc) }
 
 -- what is judged is the same unit, with what the history says of its reservations
 pub judged_is : (u : JudgedUnit) (n : Nexus) (c : Result Command Condition) (bytes : List ℕ) → IsKept u n c (judged_as u n c bytes)

@@ -18,7 +18,7 @@ use Rattle.pr_core.specs.declared.verdict.Verdict.{Verdict}
 use Rattle.pr_core.specs.declared.verdict.Verdict.TheVariants.{Allowed, Denied, Rule}
 use Rattle.audit_log.specs.declared.stage.Stage.{Stage}
 use Rattle.audit_log.specs.declared.stage.Stage.TheVariants.{Decoding, ResetAttention, OtherAttention, Fields, Device}
-use Rattle.device_server.specs.View.{DeviceView, kind_of, commands_of, field_fault, performed}
+use Rattle.device_server.specs.View.{DeviceView, commands_of, field_fault, performed}
 use Rattle.device_server.specs.Volumes.{is_move}
 use Rattle.device_server.specs.declared.outcome.Outcome.{Outcome}
 use Rattle.judgement.specs.declared.command.Command.{Command}
@@ -29,7 +29,7 @@ use Rattle.judgement.specs.Conditions.{condition_of_attention, condition_of_refu
 use Rattle.judgement.specs.Commands.{decoded_command, class_of_command, passes_over}
 use Rattle.judgement.specs.declared.decision.Decision.{Decision}
 use Rattle.judgement.specs.Decisions.{at_stage, at_device, in_cell, let_in, in_conflict}
-use Rattle.judgement.specs.UnitData.{inquiry_data, selected_luns, sense_data}
+use Rattle.judgement.specs.UnitData.{inquiry_of, selected_luns, sense_data}
 use Rattle.judgement.specs.Replies.{good, check, conflict, replied, data_reply}
 use Rattle.judgement.specs.UnitStateView.{UnitStateView}
 use Rattle.judgement.specs.JudgedUnit.{JudgedUnit}
@@ -105,7 +105,7 @@ carried_out u n (ReserveOut params) bytes = reserves u n params
 carried_out u n (ReserveIn action allocation_length) bytes =
     (u, at_stage Device, good (take allocation_length (status_data u.state.reservations action)))
 carried_out u n (Inquiry evpd page allocation_length) bytes =
-    answers u (data_reply (inquiry_data (kind_of u.device) u.state.lun evpd page) allocation_length)
+    answers u (data_reply (inquiry_of u.device u.state.lun n.port evpd page) allocation_length)
 carried_out u n (ReportLuns select allocation_length) bytes = answers u (data_reply (selected_luns u.state.units select) allocation_length)
 carried_out u n (RequestSense desc allocation_length) bytes = senses u (requests_sense u.state n desc allocation_length)
 carried_out u n (Prevent prevent) bytes = prevents u n prevent

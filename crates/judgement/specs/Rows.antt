@@ -1,11 +1,15 @@
 -- Worked rows: what a unit that doesn't exist answers, and what one that does says of itself, byte by byte.
-use Rattle.std.specs.Prelude.{◌≡◌, ℕ, true, false, List, [], ◌∷◌, ◌++◌, replicate, None, Some}
+use Rattle.std.specs.Prelude.{◌≡◌, ℕ, Bool, true, false, List, [], ◌∷◌, ◌++◌, replicate, None, Some}
 use Rattle.scsi_cdb.specs.declared.kind.Kind.TheVariants.{Drive, Changer}
 use Rattle.scsi_sense.specs.declared.status.Status.TheVariants.{Good, CheckCondition}
 use Rattle.scsi_sense.specs.FixedSense.{fixed_sense}
+use Rattle.inquiry_data.specs.Identity as identity
+use Rattle.device_server.specs.HostDrive.{empty_host_drive}
+use Rattle.device_server.specs.View.{DeviceView, kind_of, identity_of}
+use Rattle.device_server.specs.View as device
 use Rattle.judgement.specs.declared.reply.Reply.{Reply}
 use Rattle.judgement.specs.Replies.{absent_answer, busy, conflict, good, AnswersAbsent}
-use Rattle.judgement.specs.UnitData.{inquiry_data, selected_luns}
+use Rattle.judgement.specs.UnitData.{inquiry_data, inquiry_of, selected_luns}
 
 -- the sense data of a reply as bytes, none where it has none
 abbrev pub sense_bytes : Reply → List ℕ
@@ -73,3 +77,20 @@ pub record DataOfUnits : Type 0 where
   pub well_known : selected_luns 2 1 ≡ Some (replicate 8 0)
   pub every_one : selected_luns 2 2 ≡ selected_luns 2 0
   pub undefined : selected_luns 2 3 ≡ None
+
+-- a drive of the hosts' profile, by its number in library 1A2B3C4Dh
+abbrev pub host_drive : (lun : ℕ) → DeviceView
+host_drive lun = device.Drive (empty_host_drive (identity.unit (identity.library 0x1A2B3C4D) lun))
+
+-- what units with an identity say of themselves, and that one without says what it always said
+pub record InquiryByIdentity : Type 0 where
+  -- 96 bytes of standard data
+  pub drive : inquiry_of (host_drive 1) 1 1 false 0x00 ≡ Some
+      (0x01 ∷ 0x80 ∷ 0x06 ∷ 0x02 ∷ 0x5B ∷ 0x00 ∷ 0x10 ∷ 0x02 ∷ 0x56 ∷ 0x54 ∷ 0x4C ∷ 0x49 ∷ 0x42 ∷ 0x20 ∷ 0x20 ∷ 0x20 ∷ 0x54 ∷ 0x41 ∷ 0x50 ∷ 0x45 ∷ 0x20 ∷ 0x44 ∷ 0x52 ∷ 0x49 ∷ 0x56 ∷ 0x45 ∷ 0x20 ∷ 0x20 ∷ 0x20 ∷ 0x20 ∷ 0x20 ∷ 0x20 ∷ 0x30 ∷ 0x30 ∷ 0x30 ∷ 0x31 ∷ (replicate 23 0 ++ 0xA0 ∷ 0x04 ∷ 0x60 ∷ 0x05 ∷ 0x20 ∷ 0x09 ∷ 0x60 ∷ replicate 30 0))
+  -- the address of its element: 0100h of the first drive, 0103h of the fourth
+  pub first_address : inquiry_of (host_drive 1) 1 1 true 0xB4 ≡ Some (0x01 ∷ 0xB4 ∷ 0 ∷ 2 ∷ 0x01 ∷ 0x00 ∷ [])
+  pub fourth_address : inquiry_of (host_drive 4) 4 1 true 0xB4 ≡ Some (0x01 ∷ 0xB4 ∷ 0 ∷ 2 ∷ 0x01 ∷ 0x03 ∷ [])
+  pub page_without_evpd : inquiry_of (host_drive 1) 1 1 false 0x80 ≡ None
+  pub another_page : inquiry_of (host_drive 1) 1 1 true 0xC0 ≡ None
+  pub without : (device : DeviceView) (lun port : ℕ) (evpd : Bool) (page : ℕ) → identity_of device ≡ None
+      → inquiry_of device lun port evpd page ≡ inquiry_data (kind_of device) lun evpd page

@@ -5,6 +5,10 @@ use Rattle.scsi_cdb.specs.declared.kind.Kind.TheVariants.{Drive, Changer}
 use Rattle.scsi_sense.specs.declared.condition.Condition.{Condition}
 use Rattle.scsi_sense.specs.Conditions.{sense_for}
 use Rattle.scsi_sense.specs.FixedSense.{fixed_sense}
+use Rattle.inquiry_data.specs.Inquiry as hosts
+use Rattle.inquiry_data.specs.declared.inquiry_context.InquiryContext.{InquiryContext}
+use Rattle.inquiry_data.specs.declared.unit_identity.UnitIdentity.{UnitIdentity}
+use Rattle.device_server.specs.View.{DeviceView, kind_of, identity_of}
 
 -- PERIPHERAL DEVICE TYPE, with the unit connected
 abbrev pub device_type : Kind → ℕ
@@ -36,6 +40,20 @@ abbrev pub inquiry_data : Kind → (lun : ℕ) → (evpd : Bool) → (page : ℕ
 inquiry_data kind lun false page = if page == 0x00 then Some (standard_inquiry kind) else None
 inquiry_data kind lun true page =
     if page == 0x00 then Some (supported_pages kind) else if page == 0x80 then Some (serial_number kind lun) else None
+
+-- what INQUIRY of the hosts' profile tells a port: the unit's identity, and the address of a drive's element, 00FFh + its number (profile)
+abbrev pub context_of : UnitIdentity → (lun port : ℕ) → InquiryContext
+context_of identity lun port = record { identity = identity; target_port = port; element_address = 0xFF + lun }
+
+abbrev pub identified_inquiry : Kind → InquiryContext → (evpd : Bool) → (page : ℕ) → Option (List ℕ)
+identified_inquiry kind context evpd page = hosts.inquiry_data kind context evpd page
+
+-- INQUIRY of a device, which comes by a port: by its identity, where it has one
+abbrev pub inquiry_of : DeviceView → (lun port : ℕ) → (evpd : Bool) → (page : ℕ) → Option (List ℕ)
+inquiry_of device lun port evpd page = elim (identity_of device) [
+  | None ↦ inquiry_data (kind_of device) lun evpd page
+  | Some identity ↦ identified_inquiry (kind_of device) (context_of identity lun port) evpd page
+]
 
 -- the logical units below a number, 8 bytes each
 abbrev pub luns_below : ℕ → List ℕ

@@ -3,6 +3,7 @@ use Rattle.std.specs.Prelude.{◌≡◌, ℕ, ◌&&◌, ◌||◌, ◌==◌, not,
 use Rattle.std.specs.List.{fold, list_all}
 use Rattle.scsi_cdb.specs.declared.service_action.OutServiceAction.{OutServiceAction}
 use Rattle.scsi_cdb.specs.declared.service_action.OutServiceAction.TheVariants.{PreemptAndAbort}
+use Rattle.scsi_cdb.specs.declared.profile.Profile.{Profile}
 use Rattle.scsi_nexus.specs.declared.nexus.Nexus.{Nexus}
 use Rattle.scsi_nexus.specs.Order.{same_nexus}
 use Rattle.unit_attention.specs.declared.kind.Kind.{Kind}
@@ -15,8 +16,9 @@ use Rattle.pr_core.specs.Targets.{is_among}
 use Rattle.judgement.specs.UnitStateView.{UnitStateView}
 
 -- at power on nobody is registered and nobody had contact
-abbrev pub at_power_on : (lun units : ℕ) → UnitStateView
-at_power_on lun units = record { lun = lun; units = units; reservations = power_on; slots = []; preventers = [] }
+abbrev pub at_power_on : Profile → (lun units : ℕ) → UnitStateView
+at_power_on profile lun units =
+    record { lun = lun; units = units; profile = profile; reservations = power_on; slots = []; preventers = [] }
 
 -- whether the sender has a slot or there is one for it
 abbrev pub has_room : UnitStateView → Nexus → Bool

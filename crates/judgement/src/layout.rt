@@ -12,6 +12,9 @@ pub(crate) const SUPPORTED_PAGES: u8 = 0x00;
 /// PAGE CODE of Unit Serial Number.
 pub(crate) const UNIT_SERIAL_NUMBER: u8 = 0x80;
 
+/// The element of logical unit n, a drive, has the address of this plus n (profile).
+pub(crate) const ELEMENT_OF_UNIT_0: u16 = 0x00FF;
+
 /// The length of a logical unit in the LUN list, in bytes.
 pub(crate) const LUN_ENTRY_LENGTH: u16 = 8;
 

@@ -20,7 +20,7 @@ use crate::unit_state::UnitState;
 use audit_log::Stage;
 use device_server::{DeviceServer, Payload, field_fault};
 use permit_tables::OutParams;
-use scsi_cdb::Request;
+use scsi_cdb::{CommandSet, Request};
 use scsi_nexus::Nexus;
 use scsi_sense::Condition;
 use std::alloc::{AllocError, Global};
@@ -55,8 +55,8 @@ fn carry_out<D: DeviceServer>(
             page_code,
             allocation_length,
         } => {
-            let kind = device.kind();
-            let payload = inquiry(alloc, kind, state.lun(), *vital_product_data, *page_code)?;
+            let (lun, port) = (state.lun(), nexus.port);
+            let payload = inquiry(alloc, &**device, lun, port, *vital_product_data, *page_code)?;
             state.make_contact(nexus);
             Ok(answer(alloc, payload, usize::from(*allocation_length)))
         }
@@ -129,7 +129,11 @@ fn perform<D: DeviceServer>(
     ensures err { OnErr result ((D.shown device.new.value ≡ D.shown device.old.value) × (state.new ≡ state.old)) }
     ensures want { OnErr result (is_move request.now ≡ false) }
 {
-    if let Some(condition) = field_fault(device.kind(), request, bytes) {
+    let commands = CommandSet {
+        profile: device.profile(),
+        kind: device.kind(),
+    };
+    if let Some(condition) = field_fault(commands, request, bytes) {
         state.make_contact(nexus);
         let reply = Reply::check(alloc, condition);
         return Ok((Decision::at_stage(Stage::Fields), reply));

@@ -1,12 +1,13 @@
 //! The data of the commands that every unit has.
 ghost use Rattle.std.specs.Prelude.{◌≡◌, IfOk};
-ghost use Rattle.judgement.specs.UnitData.{device_type, standard_inquiry, four_digits, inquiry_data, luns_data, selected_luns, sense_data};
+ghost use Rattle.judgement.specs.UnitData.{device_type, standard_inquiry, four_digits, inquiry_data, context_of, identified_inquiry, inquiry_of, luns_data, selected_luns, sense_data};
 
 use crate::layout::{
-    CHANGER_TYPE, DRIVE_TYPE, LUN_ENTRY_LENGTH, LUN_LIST_HEADER_LENGTH, SELECT_ALL,
-    SELECT_WELL_KNOWN, SUPPORTED_PAGES, UNIT_SERIAL_NUMBER,
+    CHANGER_TYPE, DRIVE_TYPE, ELEMENT_OF_UNIT_0, LUN_ENTRY_LENGTH, LUN_LIST_HEADER_LENGTH,
+    SELECT_ALL, SELECT_WELL_KNOWN, SUPPORTED_PAGES, UNIT_SERIAL_NUMBER,
 };
-use device_server::Payload;
+use device_server::{DeviceServer, Payload};
+use inquiry_data::{InquiryContext, UnitIdentity, inquiry_data};
 use scsi_cdb::Kind;
 use scsi_sense::{Condition, Sense};
 use std::alloc::{AllocError, Global};
@@ -40,8 +41,8 @@ fn digits(lun: u8) -> [u8; 4]
     ]
 }
 
-/// INQUIRY data, uncut; none of a page that isn't offered.
-pub fn inquiry(
+/// INQUIRY data of a unit without an identity, uncut; none of a page that isn't offered.
+fn numbered_inquiry(
     alloc: Global,
     kind: Kind,
     lun: u8,
@@ -78,6 +79,54 @@ pub fn inquiry(
             Ok(Some(Payload::copied(alloc, &page)?))
         }
         _ => Ok(None),
+    }
+}
+
+/// What INQUIRY tells a port of a unit with an identity.
+fn context(identity: UnitIdentity, lun: u8, port: u16) -> InquiryContext
+    ensures { result ≡ context_of identity lun port }
+{
+    InquiryContext {
+        identity,
+        target_port: port,
+        element_address: ELEMENT_OF_UNIT_0 + u16::from(lun),
+    }
+}
+
+/// INQUIRY data of a unit with an identity, uncut; none of a page that isn't offered.
+fn identified_inquiry(
+    alloc: Global,
+    kind: Kind,
+    context: &InquiryContext,
+    vital_product_data: bool,
+    page_code: u8,
+) -> Result<Option<Payload>, AllocError>
+    ensures { IfOk result (λ payload. payload ≡ identified_inquiry kind context.now vital_product_data page_code) }
+{
+    match inquiry_data(alloc, kind, context, vital_product_data, page_code)? {
+        Some(data) => Ok(Some(Payload::of(data))),
+        None => Ok(None),
+    }
+}
+
+/// INQUIRY data, uncut, for a command that came by a port; none of a page that isn't offered (SPC-4, "INQUIRY command").
+pub fn inquiry<D: DeviceServer>(
+    alloc: Global,
+    device: &D,
+    lun: u8,
+    port: u16,
+    vital_product_data: bool,
+    page_code: u8,
+) -> Result<Option<Payload>, AllocError>
+    ensures { IfOk result (λ payload. payload ≡ inquiry_of (D.shown device.now) lun port vital_product_data page_code) }
+{
+    let kind = device.kind();
+    match device.identity() {
+        None => numbered_inquiry(alloc, kind, lun, vital_product_data, page_code),
+        Some(identity) => {
+            let context = context(identity, lun, port);
+            identified_inquiry(alloc, kind, &context, vital_product_data, page_code)
+        }
     }
 }
 

@@ -6,7 +6,7 @@ use device_server::Payload;
 use permit_tables::{Cell, OutParams, PrFault, allowed as is_allowed};
 use pr_core::{PrState, Verdict};
 use pr_params::{write_capabilities, write_full_status, write_keys, write_reservation};
-use scsi_cdb::{InServiceAction, OutServiceAction};
+use scsi_cdb::{InServiceAction, OutServiceAction, Profile};
 use scsi_nexus::Nexus;
 use std::alloc::{AllocError, Global};
 use std::marker::Model;
@@ -17,6 +17,7 @@ use unit_attention::{Kind, Queues};
 pub struct UnitState {
     lun: u8,
     units: u8,
+    profile: Profile,
     reservations: PrState,
     queues: Queues,
     preventers: Preventers,
@@ -29,7 +30,7 @@ impl Model for UnitState {
 
     ghost use Rattle.judgement.specs.UnitState.{HaveSlots};
 
-    ghost view = { λ s. record { lun = s.lun; units = s.units; reservations = s.reservations; slots = s.queues; preventers = s.preventers } };
+    ghost view = { λ s. record { lun = s.lun; units = s.units; profile = s.profile; reservations = s.reservations; slots = s.queues; preventers = s.preventers } };
 
     ghost invariant = { λ s. HaveSlots s.queues s.preventers };
 }
@@ -43,13 +44,14 @@ impl UnitState {
     ghost use Rattle.judgement.specs.Replies.{check};
     ghost use Rattle.judgement.specs.Conditions.{condition_of_attention};
 
-    /// At power on, for a unit of this number among so many.
-    pub fn new(lun: u8, units: u8) -> UnitState
-        ensures { result ≡ at_power_on lun units }
+    /// At power on, for a unit of this number among so many, all of one profile.
+    pub fn new(profile: Profile, lun: u8, units: u8) -> UnitState
+        ensures { result ≡ at_power_on profile lun units }
     {
         UnitState {
             lun,
             units,
+            profile,
             reservations: PrState::new(),
             queues: Queues::new(),
             preventers: Preventers::new(),
@@ -193,6 +195,7 @@ impl UnitState {
         UnitState {
             lun: self.lun,
             units: self.units,
+            profile: self.profile,
             reservations: self.reservations.copy(),
             queues: self.queues.copy(),
             preventers: self.preventers.copy(),

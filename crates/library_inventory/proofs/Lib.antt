@@ -1,1 +1,3 @@
+pub mod Addresses
 pub mod Lying
+pub mod Profiles

@@ -5,3 +5,4 @@ pub mod Tests
 pub mod Kept
 pub mod Starts
 pub mod Names
+pub mod Profiles

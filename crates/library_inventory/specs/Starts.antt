@@ -1,12 +1,12 @@
 -- Where each volume lies at a start.
-use Rattle.std.specs.Prelude.{◌≡◌, ℕ, ◌-◌, ◌<◌, ◌≤◌, not, ◌&&◌, ◌||◌, if◌then◌else◌, List, [], ◌∷◌, ◌++◌, length, take, map, filter, fold, count_by, zip, IsPermutation}
+use Rattle.std.specs.Prelude.{◌≡◌, ℕ, ◌-◌, ◌<◌, ◌≤◌, not, ◌&&◌, ◌||◌, if◌then◌else◌, List, [], ◌∷◌, ◌++◌, length, take, map, filter, fold, count_by, zip, None, IsPermutation}
 use Rattle.std.specs.List.{range_with_len}
 use Rattle.std.specs.List.Sorted.{IsSorted}
 use Rattle.tape_medium.specs.declared.volume.VolumeTag.{VolumeTag}
 use Rattle.library_inventory.specs.declared.element.Element.TheVariants.{Storage}
 use Rattle.library_inventory.specs.declared.placed.PlacedVolume.{PlacedVolume}
 use Rattle.library_inventory.specs.declared.fault.StartFault.{StartFault}
-use Rattle.library_inventory.specs.declared.fault.StartFault.TheVariants.{NoMemory, Disagrees, MoreVolumes, NoTags}
+use Rattle.library_inventory.specs.declared.fault.StartFault.TheVariants.{NoMemory, Disagrees, MoreVolumes, NoTags, KeptForHosts, OtherNumber, NumberWithoutHosts}
 use Rattle.library_inventory.specs.declared.placing.Start.{Start}
 use Rattle.library_inventory.specs.Tags.{tag_cmp, usual_tags}
 use Rattle.library_inventory.specs.Tests.{has_tag, is_named, is_full}
@@ -51,7 +51,7 @@ abbrev pub free_storage : (slots : ℕ) → List PlacedVolume → List ℕ
 free_storage slots volumes = filter (λ number. not (is_full volumes (Storage number))) (range_with_len 0 slots)
 
 abbrev pub stored_at : VolumeTag × ℕ → PlacedVolume
-stored_at place = record { tag = place.0; element = Storage place.1 }
+stored_at place = record { tag = place.0; element = Storage place.1; source = None }
 
 -- A START: so many storage elements, how many volumes there are to be at least, the volumes that the inventory names and those that it
 -- has as missing, the images that can be read, and the volumes whose files are there and can't be served
@@ -81,3 +81,6 @@ IsPlaceFault slots least named missing images left_out (MoreVolumes volumes free
     × (free ≡ length (free_storage slots (lying_volumes named missing images)))
     × (free < volumes)
 IsPlaceFault slots least named missing images left_out (Disagrees option given kept) = ⊥
+IsPlaceFault slots least named missing images left_out KeptForHosts = ⊥
+IsPlaceFault slots least named missing images left_out (OtherNumber given kept) = ⊥
+IsPlaceFault slots least named missing images left_out NumberWithoutHosts = ⊥

@@ -1,3 +1,4 @@
+use inquiry_data::LibraryNumber;
 use std::alloc::{AllocError, AllocFailed};
 use thiserror::Error;
 
@@ -18,6 +19,9 @@ pub enum AddFault {
     ElementTwice,
     #[error("a tag twice")]
     TagTwice,
+    /// Its source isn't an element of the library outside drives, or it has one though it isn't in a drive.
+    #[error("no source")]
+    BadSource,
     #[error("want of memory")]
     NoMemory,
 }
@@ -54,6 +58,18 @@ pub enum StartFault {
     /// Too few of the tags from VOL00001 to VOL04095 are left for the volumes that are to be made.
     #[error("no tags are left")]
     NoTags,
+    /// The default profile is given for a library that is kept with the hosts' profile, and stays so.
+    #[error("--profile spec disagrees with the inventory: the library is kept as hosts")]
+    KeptForHosts,
+    /// Another number is given than the library has.
+    #[error("--library-id {given} disagrees with the inventory, which has {kept}")]
+    OtherNumber {
+        given: LibraryNumber,
+        kept: LibraryNumber,
+    },
+    /// A number is given for a library that isn't of the hosts' profile.
+    #[error("--library-id needs --profile hosts: no other library has a number")]
+    NumberWithoutHosts,
 }
 
 impl From<AllocError> for StartFault {

@@ -5,6 +5,7 @@ use crate::among::{is_full, is_named};
 use crate::element::LibrarySize;
 use crate::fault::AddFault;
 use crate::placed::PlacedVolume;
+use program_options::LibraryProfile;
 use std::alloc::Global;
 use std::marker::Model;
 
@@ -27,6 +28,9 @@ fn look(
     if is_named(volumes, volume.tag) || is_named(missing, volume.tag) {
         return Err(AddFault::TagTwice);
     }
+    if !size.takes_source(volume.element, volume.source) {
+        return Err(AddFault::BadSource);
+    }
     Ok(())
 }
 
@@ -46,13 +50,17 @@ fn look_missing(
     if is_named(volumes, volume.tag) || is_named(missing, volume.tag) {
         return Err(AddFault::TagTwice);
     }
+    if !size.takes_source(volume.element, volume.source) {
+        return Err(AddFault::BadSource);
+    }
     Ok(())
 }
 
-/// What a library is made of, where its volumes are, and where those were that are missing: no two have one tag, no two are in one element,
-/// and each element is one of the library.
+/// What a library is made of and its profile, where its volumes are, and where those were that are missing: no two have one tag, no two are in
+/// one element, and each element is one of the library.
 #[derive(Drop)]
 pub struct Inventory {
+    profile: LibraryProfile,
     size: LibrarySize,
     volumes: Vec<PlacedVolume>,
     missing: Vec<PlacedVolume>,
@@ -63,21 +71,28 @@ impl Model for Inventory {
 
     ghost Value = { InventoryValue };
 
-    ghost view = { λ inventory. record { size = inventory.size; volumes = inventory.volumes.items; missing = inventory.missing.items } };
+    ghost view = { λ inventory. record { profile = inventory.profile; size = inventory.size; volumes = inventory.volumes.items; missing = inventory.missing.items } };
 
     ghost invariant = { λ inventory. AreKept inventory.size inventory.volumes.items inventory.missing.items };
 }
 
 impl Inventory {
     /// Of a library in which no volume is.
-    pub fn new(alloc: Global, size: LibrarySize) -> Inventory
-        ensures { result ≡ record { size = size; volumes = []; missing = [] } }
+    pub fn new(alloc: Global, profile: LibraryProfile, size: LibrarySize) -> Inventory
+        ensures { result ≡ record { profile = profile; size = size; volumes = []; missing = [] } }
     {
         Inventory {
+            profile,
             size,
             volumes: Vec::new(alloc),
             missing: Vec::new(alloc),
         }
+    }
+
+    pub fn profile(&self) -> LibraryProfile
+        ensures { result ≡ self.now.profile }
+    {
+        self.profile
     }
 
     pub fn size(&self) -> LibrarySize
@@ -104,7 +119,7 @@ impl Inventory {
 
     /// Adds a volume after the others; where it is refused nothing changes.
     pub fn add(&mut self, volume: PlacedVolume) -> Result<(), AddFault>
-        ensures ok { OnOk result (self.new ≡ record { size = self.old.size; volumes = self.old.volumes ++ volume ∷ []; missing = self.old.missing }) }
+        ensures ok { OnOk result (self.new ≡ record { profile = self.old.profile; size = self.old.size; volumes = self.old.volumes ++ volume ∷ []; missing = self.old.missing }) }
         ensures fault { IfErr result (IsAddFault self.old.size self.old.volumes self.old.missing volume) }
         ensures err { OnErr result (self.new ≡ self.old) }
     {
@@ -115,7 +130,7 @@ impl Inventory {
 
     /// Adds a volume that is missing, with the element in which it was, after the others that are; where it is refused nothing changes.
     pub fn add_missing(&mut self, volume: PlacedVolume) -> Result<(), AddFault>
-        ensures ok { OnOk result (self.new ≡ record { size = self.old.size; volumes = self.old.volumes; missing = self.old.missing ++ volume ∷ [] }) }
+        ensures ok { OnOk result (self.new ≡ record { profile = self.old.profile; size = self.old.size; volumes = self.old.volumes; missing = self.old.missing ++ volume ∷ [] }) }
         ensures fault { IfErr result (IsMissFault self.old.size self.old.volumes self.old.missing volume) }
         ensures err { OnErr result (self.new ≡ self.old) }
     {

@@ -11,14 +11,18 @@ mod made;
 mod name;
 mod placed;
 mod placing;
+mod profile;
 mod rows;
 
 pub use element::{Element, LibrarySize};
 pub use fault::{AddFault, SizeOption, StartFault};
 pub use given::size_at_start;
 pub use inventory::Inventory;
-pub use laws::{starts_forget_no_volume, starts_hold_all_images};
+pub use laws::{
+    addresses_read_back, profiles_stay, starts_forget_no_volume, starts_hold_all_images,
+};
 pub use name::{name_of_tag, tag_of_name};
 pub use placed::PlacedVolume;
 pub use placing::{Start, place};
-pub use rows::worked_rows;
+pub use profile::{StartProfile, profile_at_start};
+pub use rows::{worked_profiles, worked_rows};

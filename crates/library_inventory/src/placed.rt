@@ -6,4 +6,6 @@ use tape_medium::VolumeTag;
 pub struct PlacedVolume {
     pub tag: VolumeTag,
     pub element: Element,
+    /// Of a volume in a drive the element where it was last outside drives, if that is known.
+    pub source: Option<Element>,
 }

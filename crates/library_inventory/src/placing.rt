@@ -153,6 +153,7 @@ fn stored_volumes(
         .map(|(tag, number)| PlacedVolume {
             tag,
             element: Element::Storage(number),
+            source: None,
         })
         .collect(alloc)
 }

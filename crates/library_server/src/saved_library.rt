@@ -8,8 +8,10 @@ use command_line::MediaOptions;
 use library_inventory::{Inventory, LibrarySize, PlacedVolume};
 use library_start::{Device, LibraryFault, StartedVolume, library_of_volumes};
 use media_folder::{
-    FileStore, KeptVolume, LibraryFolder, OpenedFolder, open_folder, write_inventory_file,
+    FileStore, KeptVolume, LibraryFolder, OpenedFolder, WantedLibrary, open_folder,
+    write_inventory_file,
 };
+use program_options::LibraryProfile;
 use saved_media::{InventoryStore, MediaKeeper, VolumeImage};
 use std::alloc::{AllocError, Global};
 use std::io::Write;
@@ -61,17 +63,24 @@ pub(crate) fn saved_library<'a, E: Write>(
         folder,
         without,
         given,
+        profile,
     } = media;
+    let wanted = WantedLibrary {
+        without,
+        given,
+        profile,
+    };
     let OpenedFolder {
         folder,
+        profile,
         size,
         volumes,
         missing,
-    } = open_folder(files, folder, without, given, volume_size, memory, errors)?;
-    let inventory = inventory_of(alloc, size, &volumes)?;
+    } = open_folder(files, folder, wanted, volume_size, memory, errors)?;
+    let inventory = inventory_of(alloc, profile, size, &volumes)?;
     write_inventory_file(files, &folder, &inventory, &missing)?;
     let (started, images) = parted(alloc, volumes)?;
-    let core = library_of_volumes(alloc, size, started).map_err(fault_of)?;
+    let core = library_of_volumes(alloc, profile, size, started).map_err(fault_of)?;
     let store = FolderInventory {
         files,
         folder,
@@ -79,21 +88,23 @@ pub(crate) fn saved_library<'a, E: Write>(
     };
     Ok(SavedLibrary {
         core,
-        keeper: MediaKeeper::new(alloc, size, images, store)?,
+        keeper: MediaKeeper::new(alloc, profile, size, images, store)?,
     })
 }
 
-/// Where volumes are.
+/// Where volumes are, and from where they came.
 fn inventory_of<'a>(
     alloc: Global,
+    profile: LibraryProfile,
     size: LibrarySize,
     volumes: &[KeptVolume<'a, HostRuntime>],
 ) -> Result<Inventory, SocketFault> {
-    let mut inventory = Inventory::new(alloc, size);
+    let mut inventory = Inventory::new(alloc, profile, size);
     for kept in volumes {
         let placed = PlacedVolume {
             tag: kept.volume.tag,
             element: kept.element,
+            source: kept.source,
         };
         if inventory.add(placed).is_err() {
             return Err(SocketFault::from(AllocError));
@@ -118,11 +129,16 @@ fn parted<'a>(
     for kept in volumes {
         let KeptVolume {
             element,
+            source,
             volume,
             image,
         } = kept;
         images.push(VolumeImage::new(&volume, image))?;
-        started.push(StartedVolume { element, volume })?;
+        started.push(StartedVolume {
+            element,
+            source,
+            volume,
+        })?;
     }
     Ok((started, images))
 }

@@ -17,7 +17,7 @@ use crate::socket_fault::SocketFault;
 use command_line::ServeOptions;
 use library_start::{Device, library_within};
 use output_lines::{Audit, RecordOutput};
-use program_options::{LibraryOptions, MAX_READS, ServeTimes, ServeUntil};
+use program_options::{LibraryOptions, LibraryProfile, MAX_READS, ServeTimes, ServeUntil};
 use server::{
     LiveSessions, LoginTerms, PollSource, ServeLimits, ServeTerm, Teller, Telling, WaitTimes,
 };
@@ -36,6 +36,7 @@ use target_core::TargetCore;
 /// records to standard output, and tells on `errors` what happens. The file is removed at the end, if it is still its own. If a process
 /// listens at one of the places already, or another file is there, nothing is served and that stays; a socket's file at which no process
 /// listens is taken away. A library that is kept is read from its folder by `files`, and written there, which threads share: a bound can't be.
+/// Its profile is that of its folder.
 #[tactic(auto, using(crate::proofs::PlaceLemmas::some_places, crate::proofs::PlaceLemmas::few_places))]
 pub fn serve<
     R: AllocGlobal
@@ -53,6 +54,7 @@ pub fn serve<
     rt: &R,
     files: &HostRuntime,
     options: LibraryOptions,
+    profile: LibraryProfile,
     serving: ServeOptions,
     audit: Audit,
     errors: &mut E,
@@ -87,7 +89,7 @@ pub fn serve<
             serve_at(rt, core, Some(&keeper), socket, &made, service, errors)
         }
         None => {
-            let core = library_within(rt.alloc(), &options, &memory)?;
+            let core = library_within(rt.alloc(), &options, profile, &memory)?;
             serve_at(rt, core, None, socket, &made, service, errors)
         }
     }

@@ -1,3 +1,4 @@
 pub mod StartLemmas
+pub mod ProfileLemmas
 pub mod LibraryLemmas
 pub mod StockLemmas

@@ -1,5 +1,5 @@
 -- A library at power on, volume by volume and drive by drive.
-use Rattle.std.proofs.Common.{◌≡◌, ℕ, ◌+◌, List, [], ◌∷◌, ◌++◌, length, refl, ap, sym, subst, ◌∙◌, arith}
+use Rattle.std.proofs.Common.{◌≡◌, ℕ, ◌+◌, List, [], ◌∷◌, ◌++◌, length, Option, refl, ap, sym, subst, ◌∙◌, arith}
 use Rattle.std.proofs.lemmas.List.{length-set, map-append}
 use Rattle.tape_medium.specs.declared.volume.Volume.{Volume}
 use Rattle.tape_medium.specs.Elements.{Elements}
@@ -10,7 +10,8 @@ use Rattle.logical_unit.specs.UnitView.{UnitWithRoom, units_of}
 use Rattle.library_inventory.specs.declared.element.Element.{Element}
 use Rattle.library_inventory.specs.declared.element.Element.TheVariants.{DataTransfer, Storage, ImportExport}
 use Rattle.library_start.specs.declared.start.StartedVolume.{StartedVolume}
-use Rattle.library_start.specs.Starting.{ShelvesView, IsShelved, AreShelved, drive_units, units_at}
+use Rattle.device_server.specs.declared.host_changer.HostChanger.{HostChanger}
+use Rattle.library_start.specs.Starting.{ShelvesView, IsShelved, AreShelved, drive_units, units_over}
 
 -- one volume more
 pub AreShelved-more : (s m t : ShelvesView) (xs : List StartedVolume) (x : StartedVolume) → AreShelved s xs m → IsShelved m x.element x.volume t
@@ -39,13 +40,13 @@ drive_units-more (x ∷ ds) d lun at units is =
     let next : at ≡ (lun + 1) + length ds = omega arith in
     ap (λ rest. made (Drive x) lun units 0 ∷ rest) (drive_units-more ds d (lun + 1) at units next)
 
-pub units_at-more : (us : List UnitWithRoom) (u : UnitWithRoom) (units lun : ℕ) (e : Elements) (ds : List DriveView) (d : DriveView)
-    → units_of us ≡ units_at units (record { elements = e; drives = ds })
+pub units_over-more : (hosts : Option HostChanger) (us : List UnitWithRoom) (u : UnitWithRoom) (units lun : ℕ) (e : Elements) (ds : List DriveView) (d : DriveView)
+    → units_of us ≡ units_over hosts units (record { elements = e; drives = ds })
     → u ≡ record { unit = made (Drive d) lun units 0; room = 0 } → lun ≡ length ds + 1
-    → units_of (us ++ u ∷ []) ≡ units_at units (record { elements = e; drives = ds ++ d ∷ [] })
-units_at-more us u units lun e ds d those is at =
+    → units_of (us ++ u ∷ []) ≡ units_over hosts units (record { elements = e; drives = ds ++ d ∷ [] })
+units_over-more hosts us u units lun e ds d those is at =
     let from_one : lun ≡ 1 + length ds = omega arith in
     map-append (λ v. v.unit) us (u ∷ [])
     ∙ ap (λ vs. vs ++ u.unit ∷ []) those
-    ∙ ap (λ v. units_at units (record { elements = e; drives = ds }) ++ v.unit ∷ []) is
-    ∙ ap (λ rest. units_at units (record { elements = e; drives = [] }) ++ rest) (sym (drive_units-more ds d 1 lun units from_one))
+    ∙ ap (λ v. units_over hosts units (record { elements = e; drives = ds }) ++ v.unit ∷ []) is
+    ∙ ap (λ rest. units_over hosts units (record { elements = e; drives = [] }) ++ rest) (sym (drive_units-more ds d 1 lun units from_one))

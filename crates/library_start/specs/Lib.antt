@@ -1,4 +1,5 @@
 pub mod Sizes
+pub mod Profiles
 pub mod Starting
 pub mod StartRows
 pub mod Stock

@@ -2,6 +2,7 @@ ghost use Rattle.std.specs.Prelude.{◌≡◌};
 
 use changer_server::Changer;
 use device_server::{BadPlace, DeviceServer, Outcome, PutFault, TakeFault};
+use inquiry_data::UnitIdentity;
 use scsi_cdb::{Kind, Profile, Request};
 use std::alloc::{AllocError, Global};
 use tape_medium::{Volume, VolumeTag};
@@ -18,7 +19,7 @@ impl Device {
     ghost use Rattle.std.specs.Option.{option_map};
     ghost use Rattle.device_server.specs.Volumes.{volume_at};
     ghost use Rattle.device_server.specs.Settled.{settled_at, SameButSettled};
-    ghost use Rattle.library_start.specs.Devices.{shown_as};
+    ghost use Rattle.library_start.specs.Devices.{shown_as, source_of};
 
     /// The volume at a place: 0 is a drive's bay, a changer's are its storage and import/export elements, by address.
     pub fn volume(&self, place: u16) -> Option<&Volume>
@@ -27,6 +28,16 @@ impl Device {
         match self {
             Device::Changer(changer) => changer.elements().volume(place),
             Device::Tape(drive) if place == 0 => drive.volume(),
+            Device::Tape(_) => None,
+        }
+    }
+
+    /// The source of the volume in an element of a changer, if it is of the hosts' profile and knows it.
+    pub fn source(&self, address: u16) -> Option<u16>
+        ensures { result ≡ source_of (shown_as self.now) address }
+    {
+        match self {
+            Device::Changer(changer) => changer.hosts()?.sources.source(address),
             Device::Tape(_) => None,
         }
     }
@@ -65,6 +76,13 @@ impl DeviceServer for Device {
         match self {
             Device::Changer(changer) => changer.profile(),
             Device::Tape(drive) => drive.profile(),
+        }
+    }
+
+    fn identity(&self) -> Option<UnitIdentity> {
+        match self {
+            Device::Changer(changer) => changer.identity(),
+            Device::Tape(drive) => drive.identity(),
         }
     }
 
@@ -112,6 +130,13 @@ impl DeviceServer for Device {
         match self {
             Device::Changer(changer) => changer.put_volume(place, volume),
             Device::Tape(drive) => drive.put_volume(place, volume),
+        }
+    }
+
+    fn note_journey(&mut self, source: u16, destination: u16) {
+        match self {
+            Device::Changer(changer) => changer.note_journey(source, destination),
+            Device::Tape(drive) => drive.note_journey(source, destination),
         }
     }
 

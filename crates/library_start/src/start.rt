@@ -1,19 +1,20 @@
 //! A library whose volumes lie where they lay.
 
-ghost use Rattle.std.specs.Prelude.{◌≡◌, ◌+◌, ◌≤◌, length, Ok, IfOk, OnOk, replicate};
+ghost use Rattle.std.specs.Prelude.{◌≡◌, ◌+◌, ◌≤◌, length, Ok, IfOk, OnOk};
 ghost use Rattle.tape_medium.specs.Elements.{puts};
-ghost use Rattle.device_server.specs.Drive.{empty_drive};
 ghost use Rattle.logical_unit.specs.UnitView.{units_of};
+ghost use Rattle.library_start.specs.Profiles.{empty_drives};
 ghost use Rattle.library_start.specs.Sizes.{IsMade};
-ghost use Rattle.library_start.specs.Starting.{IsLoaded, AreShelved, units_at, IsLibraryOf};
+ghost use Rattle.library_start.specs.Starting.{IsLoaded, AreShelved, units_over, IsLibraryOf};
 
 use crate::device::Device;
+use crate::profiled::{changer_over, drive_at, hosts_at_start};
 use crate::unit::unit_at;
-use changer_server::Changer;
-use device_server::DeviceServer;
+use device_server::{DeviceServer, HostChanger};
 use element_map::Elements;
 use library_inventory::{Element, LibrarySize};
 use logical_unit::LogicalUnit;
+use program_options::LibraryProfile;
 use std::alloc::{AllocError, AllocFailed, Global};
 use std::marker::Model;
 use tape_medium::{FIRST_DATA_TRANSFER, FIRST_IMPORT_EXPORT, FIRST_STORAGE, Volume};
@@ -25,6 +26,8 @@ use thiserror::Error;
 #[derive(Drop)]
 pub struct StartedVolume {
     pub element: Element,
+    /// Of a volume in a drive the element where it was last outside drives, if that is known.
+    pub source: Option<Element>,
     pub volume: Volume,
 }
 
@@ -66,12 +69,16 @@ impl Model for Shelves {
 }
 
 /// So many drives with empty bays.
-fn empty_drives(alloc: Global, count: u8) -> Result<Vec<TapeDrive>, LibraryFault>
-    ensures { IfOk result (λ drives. drives.items ≡ replicate count empty_drive) }
+fn empty_drives(
+    alloc: Global,
+    profile: LibraryProfile,
+    count: u8,
+) -> Result<Vec<TapeDrive>, LibraryFault>
+    ensures { IfOk result (λ drives. drives.items ≡ empty_drives profile count) }
 {
     let mut drives = Vec::new(alloc);
-    'drives: for _drive in 0..count {
-        drives.push(TapeDrive::new())?;
+    'drives: for place in 0..count {
+        drives.push(drive_at(profile, place + 1))?;
     }
     Ok(drives)
 }
@@ -90,9 +97,13 @@ impl Shelves {
     ghost use Rattle.library_start.specs.Starting.{empty_shelves, IsShelved};
 
     /// Empty ones.
-    fn new(alloc: Global, size: LibrarySize) -> Result<Shelves, LibraryFault>
+    fn new(
+        alloc: Global,
+        profile: LibraryProfile,
+        size: LibrarySize,
+    ) -> Result<Shelves, LibraryFault>
         requires { IsMade size }
-        ensures { IfOk result (λ shelves. shelves ≡ empty_shelves size) }
+        ensures { IfOk result (λ shelves. shelves ≡ empty_shelves profile size) }
     {
         let elements = Elements::new(
             alloc,
@@ -100,7 +111,7 @@ impl Shelves {
             size.slots,
             u16::from(size.import_exports),
         )?;
-        let drives = empty_drives(alloc, size.drives)?;
+        let drives = empty_drives(alloc, profile, size.drives)?;
         Ok(Shelves { elements, drives })
     }
 
@@ -152,25 +163,31 @@ impl Shelves {
         ensures { OnOk result (AreShelved self.old volumes.items self.new) }
     {
         'volumes: for started in volumes {
-            let StartedVolume { element, volume } = started;
+            let StartedVolume {
+                element,
+                volume,
+                ..
+            } = started;
             self.put(element, volume)?;
         }
         Ok(())
     }
 }
 
-/// The units of a changer and of drives, which are the logical units from 1 on.
+/// The units of a changer, with what it keeps besides, and of drives, which are the logical units from 1 on.
 fn units_over(
     alloc: Global,
     count: u8,
     shelves: Shelves,
+    hosts: Option<HostChanger>,
 ) -> Result<Vec<LogicalUnit<Device>>, LibraryFault>
     requires { length shelves.drives ≤ 4 }
-    ensures { IfOk result (λ units. units_of units.items ≡ units_at count shelves) }
+    ensures { IfOk result (λ units. units_of units.items ≡ units_over hosts count shelves) }
 {
     let Shelves { elements, drives } = shelves;
     let mut units = Vec::new(alloc);
-    units.push(unit_at(alloc, 0, count, Device::Changer(Changer::new(elements)))?)?;
+    let changer = Device::Changer(changer_over(elements, hosts));
+    units.push(unit_at(alloc, 0, count, changer)?)?;
     let mut lun = 0u8;
     'drives: for drive in drives {
         lun = lun.saturating_add(1);
@@ -179,19 +196,21 @@ fn units_over(
     Ok(units)
 }
 
-/// The library at power on in which volumes lie in these elements; one in a drive is loaded, at the beginning of its tape. No
+/// The library of a profile at power on in which volumes lie in these elements; one in a drive is loaded, at the beginning of its tape. No
 /// two lie in one element, and each element is one of the library: else there is none.
 pub fn library_of_volumes(
     alloc: Global,
+    profile: LibraryProfile,
     size: LibrarySize,
     volumes: Vec<StartedVolume>,
 ) -> Result<TargetCore<Device>, LibraryFault>
     requires { IsMade size }
-    ensures { IfOk result (λ core. IsLibraryOf size volumes.items (units_of core)) }
+    ensures { IfOk result (λ core. IsLibraryOf profile size volumes.items (units_of core)) }
 {
-    let mut shelves = Shelves::new(alloc, size)?;
+    let hosts = hosts_at_start(alloc, profile, size, &volumes)?;
+    let mut shelves = Shelves::new(alloc, profile, size)?;
     shelves.put_all(volumes)?;
-    let units = units_over(alloc, size.drives + 1, shelves)?;
+    let units = units_over(alloc, size.drives + 1, shelves, hosts)?;
     match TargetCore::new(units) {
         Ok(core) => Ok(core),
         Err(_) => Err(LibraryFault::BadElement),

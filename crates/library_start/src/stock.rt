@@ -1,11 +1,10 @@
-//! What the program's changer holds at power on.
+//! What the elements of the program's changer hold at power on.
 
 ghost use Rattle.std.specs.Prelude.{◌≡◌, ◌<◌, ◌≤◌, ◌^◌, IfOk};
 ghost use Rattle.program_options.specs.Options.{AreInRange};
 ghost use Rattle.library_start.specs.Stock.{five_digits, stocked, tag_of, volume_of};
 ghost use Rattle.tape_medium.specs.Limits.{capacity_limit};
 
-use changer_server::Changer;
 use element_map::Elements;
 use program_options::LibraryOptions;
 use std::alloc::{AllocError, Global};
@@ -78,16 +77,16 @@ fn volume_of(alloc: Global, memory: MemoryLimit, size: u64, number: u16) -> Volu
     }
 }
 
-/// A changer with the elements of the options, and with the volumes in its first storage elements,
+/// The elements of the options, with the volumes in the first storage elements,
 /// numbered from 1 on, which take no more memory together than the limit says.
 pub fn stocked(
     alloc: Global,
     options: &LibraryOptions,
     memory: &MemoryLimit,
-) -> Result<Changer, AllocError>
+) -> Result<Elements, AllocError>
     requires range { AreInRange options.now }
     requires fits { options.now.volumes ≤ options.now.slots }
-    ensures { IfOk result (λ changer. changer ≡ stocked options.now) }
+    ensures { IfOk result (λ elements. elements ≡ stocked options.now) }
 {
     let mut elements = Elements::new(
         alloc,
@@ -103,5 +102,5 @@ pub fn stocked(
             Err(_) => unreachable!(),
         }
     }
-    Ok(Changer::new(elements))
+    Ok(elements)
 }

@@ -1,5 +1,6 @@
 -- LOG SENSE (SPC-4, "LOG SENSE command").
-use Rattle.std.specs.Prelude.{ℕ, nat_lt, Bool, ◌||◌, List, Option, Some, None, Result, Ok, Err, if◌then◌else◌}
+use Rattle.std.specs.Prelude.{◌≡◌, ℕ, nat_lt, Bool, ◌||◌, List, Option, Some, None, Result, Ok, Err, if◌then◌else◌}
+use Rattle.std.specs.Option.{option_map}
 use Rattle.scsi_sense.specs.declared.condition.Condition.{Condition}
 use Rattle.scsi_sense.specs.declared.condition.Condition.TheVariants.{InvalidFieldInCdb}
 use Rattle.log_pages.specs.declared.drive_log.DriveLog.{DriveLog}
@@ -42,9 +43,31 @@ changer_data None sense = Err InvalidFieldInCdb
 changer_data (Some page) sense =
     if is_refused sense (last_of_common page) then Err InvalidFieldInCdb else Ok (changer_page page sense.parameter_pointer)
 
+-- why LOG SENSE is refused by its fields, where its page has this last parameter code, or the unit hasn't the page
+abbrev pub page_fault : (last_code : Option ℕ) → LogSense → Option Condition
+page_fault None sense = Some InvalidFieldInCdb
+page_fault (Some last_code) sense = if is_refused sense last_code then Some InvalidFieldInCdb else None
+
+abbrev pub drive_log_fault : LogSense → Option Condition
+drive_log_fault sense = page_fault (option_map last_of_drive (drive_page_at sense.page_code sense.subpage_code)) sense
+
+abbrev pub changer_log_fault : LogSense → Option Condition
+changer_log_fault sense = page_fault (option_map last_of_common (common_page_at sense.page_code sense.subpage_code)) sense
+
 -- the data of LOG SENSE, or why it is refused
 abbrev pub drive_log_data : LogSense → DriveLog → Result (List ℕ) Condition
 drive_log_data sense log = drive_data (drive_page_at sense.page_code sense.subpage_code) sense log
 
 abbrev pub changer_log_data : LogSense → Result (List ℕ) Condition
 changer_log_data sense = changer_data (common_page_at sense.page_code sense.subpage_code) sense
+
+-- Law: it is refused for what its fields say alone
+abbrev pub why_not : Result (List ℕ) Condition → Option Condition
+why_not (Ok bytes) = None
+why_not (Err condition) = Some condition
+
+abbrev pub DrivesRefuseFields : Type 0
+DrivesRefuseFields = (sense : LogSense) (log : DriveLog) → why_not (drive_log_data sense log) ≡ drive_log_fault sense
+
+abbrev pub ChangersRefuseFields : Type 0
+ChangersRefuseFields = (sense : LogSense) → why_not (changer_log_data sense) ≡ changer_log_fault sense

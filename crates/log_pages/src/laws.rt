@@ -3,7 +3,7 @@ ghost use Rattle.scsi_cdb.specs.declared.kind.Kind.TheVariants.{Drive, Changer};
 ghost use Rattle.scsi_sense.specs.declared.condition.Condition.TheVariants.{InvalidFieldInCdb, ParameterListLengthError, InvalidFieldInParameterList};
 ghost use Rattle.log_pages.specs.Counters.{at_power_on, wrote, read, after, is_reset};
 ghost use Rattle.log_pages.specs.LogSelect.{selected};
-ghost use Rattle.log_pages.specs.LogSense.{drive_log_data, changer_log_data};
+ghost use Rattle.log_pages.specs.LogSense.{drive_log_data, changer_log_data, DrivesRefuseFields, ChangersRefuseFields};
 ghost use Rattle.log_pages.specs.Pages.{megabytes, mebibytes};
 ghost use Rattle.log_pages.specs.Rows.{log_sense, log_select, counters_of, loaded, empty};
 ghost use Rattle.log_pages.specs.declared.change.LogChange.TheVariants.{Unchanged, AllPages, WriteErrorCounters, ReadErrorCounters, SequentialAccessDevice, PageWithoutCounters};
@@ -205,4 +205,10 @@ pub fn rows_of_log_select()
     ensures long_list { selected Drive (log_select false 0x00 0x00 12) 16 ≡ Err ParameterListLengthError }
     ensures nothing_can_be_set { selected Drive (log_select false 0x02 0x00 12) 12 ≡ Err InvalidFieldInParameterList }
     ensures nothing_can_be_set_at_a_changer { selected Changer (log_select false 0x00 0x00 4) 4 ≡ Err InvalidFieldInParameterList }
+{}
+
+/// Law: LOG SENSE is refused for what its fields say, whatever the counters and the volume are.
+pub fn fields_alone_are_refused()
+    ensures drives { DrivesRefuseFields }
+    ensures changers { ChangersRefuseFields }
 {}

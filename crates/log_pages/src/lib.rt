@@ -19,9 +19,12 @@ pub use change::LogChange;
 pub use counters::LogCounters;
 pub use drive_log::{DriveLog, VolumeLog};
 pub use laws::{
-    rows_of_counters, rows_of_error_counters, rows_of_log_select, rows_of_refusals,
-    rows_of_sequential_access, rows_of_supported_pages, rows_of_tape_alert, rows_of_tape_capacity,
+    fields_alone_are_refused, rows_of_counters, rows_of_error_counters, rows_of_log_select,
+    rows_of_refusals, rows_of_sequential_access, rows_of_supported_pages, rows_of_tape_alert,
+    rows_of_tape_capacity,
 };
 pub use layout::LONGEST_LOG_DATA;
 pub use log_select::{LogSelect, selected};
-pub use log_sense::{LogSense, changer_log_data, drive_log_data};
+pub use log_sense::{
+    LogSense, changer_log_data, changer_log_fault, drive_log_data, drive_log_fault,
+};

@@ -1,5 +1,5 @@
 ghost use Rattle.std.specs.Prelude.{◌≡◌, ◌≤◌, vec_len, Ok, Err, IfOk, IfErr};
-ghost use Rattle.log_pages.specs.LogSense.{drive_log_data, changer_log_data, is_refused, drive_page, changer_page};
+ghost use Rattle.log_pages.specs.LogSense.{drive_log_data, changer_log_data, drive_log_fault, changer_log_fault, page_fault, is_refused, drive_page, changer_page};
 ghost use Rattle.log_pages.specs.Pages.{tape_alert_flags};
 ghost use Rattle.log_pages.specs.Parameters.{parameter_page};
 
@@ -30,6 +30,36 @@ impl LogSense {
         ensures { result ≡ is_refused self.now last_code }
     {
         self.parameter_pointer_control || self.save_parameters || self.parameter_pointer > last_code
+    }
+
+    /// Why it is refused, of a page with this last parameter code, or where the unit hasn't the page.
+    fn fault(&self, last_code: Option<u16>) -> Option<Condition>
+        ensures { result ≡ page_fault last_code self.now }
+    {
+        match last_code {
+            Some(last_code) if !self.is_refused(last_code) => None,
+            Some(_) | None => Some(Condition::InvalidFieldInCdb),
+        }
+    }
+}
+
+/// Why a LOG SENSE of a drive is refused, which its fields decide alone.
+pub fn drive_log_fault(sense: &LogSense) -> Option<Condition>
+    ensures { result ≡ drive_log_fault sense.now }
+{
+    match drive_page_at(sense.page_code, sense.subpage_code) {
+        Some(page) => sense.fault(Some(page.last_code())),
+        None => sense.fault(None),
+    }
+}
+
+/// Why a LOG SENSE of a changer is refused, which its fields decide alone.
+pub fn changer_log_fault(sense: &LogSense) -> Option<Condition>
+    ensures { result ≡ changer_log_fault sense.now }
+{
+    match common_page_at(sense.page_code, sense.subpage_code) {
+        Some(page) => sense.fault(Some(page.last_code())),
+        None => sense.fault(None),
     }
 }
 

@@ -1,6 +1,5 @@
 -- A command of a drive that asks for its status at once says the same in the hosts' profile.
-use Rattle.std.proofs.Common.{◌≡◌, ℕ, true, List, Result, Ok, Err, refl, sym, ap, ◌∙◌, subst}
-use Rattle.scsi_cdb.specs.declared.fault.CdbFault.{CdbFault}
+use Rattle.std.proofs.Common.{◌≡◌, ℕ, true, List, Ok, ap, ◌∙◌, subst}
 use Rattle.scsi_cdb.specs.declared.kind.Kind.{Kind}
 use Rattle.scsi_cdb.specs.declared.kind.Kind.TheVariants.{Drive}
 use Rattle.scsi_cdb.specs.declared.profile.CommandSet.{CommandSet}

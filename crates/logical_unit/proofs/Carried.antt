@@ -9,11 +9,11 @@ use Rattle.device_server.specs.View.{DeviceView, commands_of, drives_of}
 use Rattle.judgement.specs.declared.reply.Reply.{Reply}
 use Rattle.judgement.specs.Replies.{busy, good, check}
 use Rattle.judgement.specs.Commands.{act_of}
-use Rattle.logical_unit.specs.Move.{TwoDrives, carried_by_one, carried_one, carried_two, upward, downward, passed, route_at, MovesOne, MovesTwo, numbers_of}
+use Rattle.logical_unit.specs.Move.{TwoDrives, carried_by_one, carried_one, carried_by_two, carried_two, upward, downward, passed, route_at, MovesOne, MovesTwo, numbers_of}
 use Rattle.logical_unit.specs.Route.{named, is_upward}
 use Rattle.logical_unit.specs.UnitView.{UnitView, last_number}
 use Rattle.logical_unit.specs.declared.route.Route.{Route}
-use Rattle.logical_unit.proofs.Halves.{is_unloaded, is_loaded, is_passed}
+use Rattle.logical_unit.proofs.Halves.{is_unloaded, is_loaded, is_passed, came}
 use Rattle.logical_unit.proofs.Moved.{Ends, Became, one_became, two_became}
 use Rattle.logical_unit.proofs.NumbersOf.{none_more, one_more, out_last, in_last}
 use Rattle.logical_unit.specs.declared.act_kind.ActKind.{ActKind}
@@ -53,7 +53,8 @@ by_one_last c d r (Some l) (Some m) device e h = absurd cc
 
 one_last : (c : DeviceView) (d : UnitView) (o : Option Route) (device : DeviceView) (e : UnitView) → carried_one c d o ≡ Ok (device, e) → last_number e ≡ last_number d + 1
 one_last c d None device e h = absurd cc
-one_last c d (Some r) device e h = by_one_last c d r r.from r.to device e h
+one_last c d (Some r) device e h =
+    let w = came r (carried_by_one c d r r.from r.to) device e h in by_one_last c d r r.from r.to w.mid e w.carries
 
 abbrev Three : Type 0
 Three = DeviceView × UnitView × UnitView
@@ -86,7 +87,9 @@ by_way_last c ds r false device es h = downward_last c ds r device es (passed c 
 
 two_last : (c : DeviceView) (ds : TwoDrives) (o : Option Route) (device : DeviceView) (es : TwoDrives) → carried_two c ds o ≡ Ok (device, es) → BothMore ds es
 two_last c ds None device es h = absurd cc
-two_last c ds (Some r) device es h = by_way_last c ds r (is_upward r.from r.to) device es h
+two_last c ds (Some r) device es h =
+    let w = came r (carried_by_two c ds r) device es h in
+    by_way_last c ds r (is_upward r.from r.to) w.mid es w.carries
 
 -- WITH ONE DRIVE
 pub one_settled : (c d v e : UnitView) (n : Nexus) (cdb bytes : List ℕ) (r : Reply) (l : ℕ) (more : List ℕ) → named (commands_of c.device) (drives_of c.device) cdb ≡ l ∷ more → MovesOne c d n cdb bytes ((v, r), e)

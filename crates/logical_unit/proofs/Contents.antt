@@ -1,5 +1,5 @@
 -- A command of a nexus to which the changing classes are closed moves the tape at most.
-use Rattle.std.proofs.Common.{◌≡◌, ℕ, Bool, true, false, cond, ◌==◌, ◌&&◌, List, [], Option, Some, None, Result, Ok, Err, inl, inr, refl, sym, subst}
+use Rattle.std.proofs.Common.{◌≡◌, ℕ, Bool, true, false, cond, ◌==◌, ◌&&◌, List, [], Option, Some, None, Result, Ok, Err, inl, inr, refl, sym, ap, subst}
 use Rattle.std.specs.Prelude.{ℤ, pos, negsuc, length}
 use Rattle.scsi_cdb.specs.declared.request.Request.{Request}
 use Rattle.scsi_cdb.specs.declared.request.Request.TheVariants as request
@@ -27,12 +27,14 @@ use Rattle.audit_log.specs.declared.stage.Stage.TheVariants.{ResetAttention, Oth
 use Rattle.device_server.specs.declared.outcome.Outcome.{Outcome}
 use Rattle.device_server.specs.Outcomes.{done, refused}
 use Rattle.device_server.specs.Drive.{DriveView, run, after_run, behind_run, reads, reads_fixed, unless_nothing, is_fixed_transfer, space_code, on_tape, in_volume, in_bay, drive_step}
-use Rattle.device_server.specs.View.{DeviceView, Drive, Changer, commands_of, field_fault, stepped, performed}
+use Rattle.device_server.specs.declared.host_drive.HostDrive.{HostDrive}
+use Rattle.device_server.specs.HostDrive.{not_ready, host_in_volume, host_in_bay, host_drive_step}
+use Rattle.device_server.specs.View.{DeviceView, Drive, Changer, commands_of, field_fault, drive_stepped, stepped, performed}
 use Rattle.device_server.specs.Volumes.{SameVolume, SameAt}
 use Rattle.device_server.proofs.TapeLemmas.{same_volume}
-use Rattle.logical_unit.specs.Contents.{SameContents, MayNotChange, OutsiderChangesNothing}
+use Rattle.logical_unit.specs.Contents.{settings_of, SameContents, MayNotChange, OutsiderChangesNothing}
 use Rattle.logical_unit.proofs.EndsOf.{by_ends}
-use Rattle.logical_unit.proofs.OutsiderLeavesContents.{barred, changer_quiet}
+use Rattle.logical_unit.proofs.OutsiderLeavesContents.{barred, host_command_quiet, changer_by}
 use Rattle.judgement.specs.declared.command.Command.{Command}
 use Rattle.judgement.specs.declared.command.Command.TheVariants.{ReserveOut, ReserveIn, Inquiry, ReportLuns, RequestSense, Prevent, Device}
 use Rattle.judgement.specs.declared.decision.Decision.{Decision}
@@ -104,7 +106,7 @@ module _ (ty : ResType) (ro : Role) (closed : row_allows Changing ty ro ≡ fals
   tape_same m protected t (request.ModeSense dbd pc page subpage l) bytes h = same_tape t
   tape_same m protected t (request.LoadUnload hold eot load) bytes h = same_tape t
   tape_same m protected t (request.PreventAllowMediumRemoval prevent) bytes h = same_tape t
-  tape_same m protected t (request.Locate bt cp object) bytes h = record { objects = refl; capacity = refl }
+  tape_same m protected t (request.Locate bt cp object partition) bytes h = record { objects = refl; capacity = refl }
   tape_same m protected t request.ReadPosition bytes h = same_tape t
   tape_same m protected t (request.PersistentReserveIn action l) bytes h = same_tape t
   tape_same m protected t (request.PersistentReserveOut action scope_type l) bytes h = same_tape t
@@ -121,10 +123,11 @@ module _ (ty : ResType) (ro : Role) (closed : row_allows Changing ty ro ≡ fals
   volume_self (Some v) = same_volume v
 
   drive_self : (d : DriveView) → SameDrive d d
-  drive_self d = (refl, refl, volume_self d.bay)
+  drive_self d = (refl, refl, refl, volume_self d.bay)
 
   in_volume_same : (d : DriveView) (v : Volume) (x : TapeView × Outcome) → d.bay ≡ Some v → SameTape v.tape x.0 → SameDrive d (in_volume d v x).0
   in_volume_same d v x e h = (
+    refl,
     refl,
     refl,
     subst (λ (o : Option Volume). SameAt SameVolume o (Some (record v { tape = x.0 }))) (sym e)
@@ -157,7 +160,7 @@ module _ (ty : ResType) (ro : Role) (closed : row_allows Changing ty ro ≡ fals
   drive_same d (request.Inquiry evpd page l) bytes h = bay_same d d.bay (request.Inquiry evpd page l) bytes refl h
   drive_same d request.Erase bytes h = bay_same d d.bay request.Erase bytes refl h
   drive_same d (request.PreventAllowMediumRemoval prevent) bytes h = bay_same d d.bay (request.PreventAllowMediumRemoval prevent) bytes refl h
-  drive_same d (request.Locate bt cp l) bytes h = bay_same d d.bay (request.Locate bt cp l) bytes refl h
+  drive_same d (request.Locate bt cp l partition) bytes h = bay_same d d.bay (request.Locate bt cp l partition) bytes refl h
   drive_same d request.ReadPosition bytes h = bay_same d d.bay request.ReadPosition bytes refl h
   drive_same d (request.PersistentReserveIn action l) bytes h = bay_same d d.bay (request.PersistentReserveIn action l) bytes refl h
   drive_same d (request.PersistentReserveOut action scope_type l) bytes h = bay_same d d.bay (request.PersistentReserveOut action scope_type l) bytes refl h
@@ -166,13 +169,36 @@ module _ (ty : ResType) (ro : Role) (closed : row_allows Changing ty ro ≡ fals
   drive_same d (request.ReadElementStatus voltag type_code start count curdata dvcid l) bytes h = bay_same d d.bay (request.ReadElementStatus voltag type_code start count curdata dvcid l) bytes refl h
   drive_same d (request.Host command) bytes h = bay_same d d.bay (request.Host command) bytes refl h
 
+  -- in the hosts' profile READ is counted
+  host_in_volume_same : (d : DriveView) (h : HostDrive) (v : Volume) (r : Request) (x : TapeView × Outcome) → d.hosts ≡ Some h → d.bay ≡ Some v → SameTape v.tape x.0 → SameDrive d (host_in_volume d h v r x).0
+  host_in_volume_same d h v r x is e same = (refl, refl, ap settings_of is, (in_volume_same d v x e same).3)
+
+  host_bay_same : (d : DriveView) (h : HostDrive) (o : Option Volume) (r : Request) (bytes : List ℕ) → d.hosts ≡ Some h → d.bay ≡ o → Let r → SameDrive d (host_in_bay d h o r bytes).0
+  host_bay_same d h None r bytes is e lets = drive_self d
+  host_bay_same d h (Some v) r bytes is e lets =
+      either_drive d d.loaded (host_in_volume d h v r (on_tape d.block_length v.protected v.tape r bytes)) (d, refused (not_ready h.held))
+      (host_in_volume_same d h v r (on_tape d.block_length v.protected v.tape r bytes) is e (tape_same d.block_length v.protected v.tape r bytes lets)) (drive_self d)
+
+  host_drive_same : (d : DriveView) (h : HostDrive) (r : Request) (bytes : List ℕ) → d.hosts ≡ Some h → Let r → SameDrive d (host_drive_step d h r bytes).0
+  host_drive_same d h request.ReadBlockLimits bytes is lets = drive_self d
+  host_drive_same d h (request.ModeSelect sp l) bytes is lets = barred _ lets closed
+  host_drive_same d h (request.ModeSense dbd pc page subpage l) bytes is lets = drive_self d
+  host_drive_same d h (request.LoadUnload hold eot load) bytes is lets = barred _ lets closed
+  host_drive_same d h (request.Host command) bytes is lets =
+      let q = host_command_quiet ty ro closed d h command bytes lets in subst (λ (e : DriveView). SameDrive d e) (sym q.same) (drive_self d)
+  host_drive_same d h r bytes is lets = host_bay_same d h d.bay r bytes is refl lets
+
+  drive_by : (o : Option HostDrive) (d : DriveView) (r : Request) (bytes : List ℕ) → d.hosts ≡ o → Let r → SameDrive d (drive_stepped o d r bytes).0
+  drive_by None d r bytes is lets = drive_same d r bytes lets
+  drive_by (Some h) d r bytes is lets = host_drive_same d h r bytes is lets
+
   device_self : (d : DeviceView) → SameContents d d
   device_self (Drive d) = drive_self d
-  device_self (Changer e) = refl
+  device_self (Changer c) = refl
 
   stepped_same : (d : DeviceView) (r : Request) (bytes : List ℕ) → Let r → SameContents d (stepped d r bytes).0
-  stepped_same (Drive d) r bytes h = drive_same d r bytes h
-  stepped_same (Changer e) r bytes h = sym (changer_quiet ty ro closed e r h).same
+  stepped_same (Drive d) r bytes h = drive_by d.hosts d r bytes refl h
+  stepped_same (Changer c) r bytes h = sym (changer_by ty ro closed c.hosts c r bytes h).same
 
   pub performed_same : (d : DeviceView) (r : Request) (bytes : List ℕ) → Let r → SameContents d (performed d r bytes).0
   performed_same d r bytes h =

@@ -68,7 +68,7 @@ request_plain request.Erase bytes = record { tells = λ k n told. refl; listless
 request_plain (request.ModeSense dbd pc page subpage l) bytes = record { tells = λ k n told. refl; listless = refl; own = refl }
 request_plain (request.LoadUnload hold eot load) bytes = record { tells = λ k n told. refl; listless = refl; own = refl }
 request_plain (request.PreventAllowMediumRemoval prevent) bytes = tt
-request_plain (request.Locate bt cp l) bytes = record { tells = λ k n told. refl; listless = refl; own = refl }
+request_plain (request.Locate bt cp l partition) bytes = record { tells = λ k n told. refl; listless = refl; own = refl }
 request_plain request.ReadPosition bytes = record { tells = λ k n told. refl; listless = refl; own = refl }
 request_plain (request.PersistentReserveIn action l) bytes = tt
 request_plain (request.ReportLuns select l) bytes = tt

@@ -1,4 +1,4 @@
--- The fields of each of the device's commands are refused by a condition of its class.
+-- In the default profile the fields of each of the device's commands are refused by a condition of its class.
 use Rattle.std.proofs.Common.{◌≡◌, ℕ, Bool, true, false, List, Option, Some, None, refl}
 use Rattle.std.specs.Prelude.{◌+◌, ◌==◌, nat_lt, not, ◌&&◌, length, cond}
 use Rattle.scsi_cdb.specs.declared.classes.Class.{Class}
@@ -9,7 +9,7 @@ use Rattle.scsi_cdb.specs.declared.request.Request.TheVariants as request
 use Rattle.scsi_cdb.specs.Classes.{class_of}
 use Rattle.scsi_sense.specs.declared.condition.Condition.{Condition}
 use Rattle.scsi_sense.specs.declared.condition.Condition.TheVariants.{InvalidFieldInCdb, InvalidFieldInParameterList, ParameterListLengthError, SavingParametersNotSupported}
-use Rattle.device_server.specs.Fields.{invalid_where, mode_select_fault, write_fault, field_fault_of}
+use Rattle.device_server.specs.Fields.{invalid_where, mode_select_fault, write_fault, spec_field_fault}
 use Rattle.tape_medium.specs.Limits.{block_limit}
 use Rattle.device_server.specs.Mode.{list_fault, descriptor_length, block_length_in}
 use Rattle.logical_unit.specs.Legal.{is_field_fault}
@@ -19,7 +19,7 @@ abbrev pub IsFaultIf : Class → Option Condition → Type 0
 IsFaultIf class None = Unit {0}
 IsFaultIf class (Some condition) = is_field_fault class condition ≡ true
 
-where_fits : (k : Class) (wrong : Bool) → is_field_fault k InvalidFieldInCdb ≡ true → IsFaultIf k (invalid_where wrong)
+pub where_fits : (k : Class) (wrong : Bool) → is_field_fault k InvalidFieldInCdb ≡ true → IsFaultIf k (invalid_where wrong)
 where_fits k true h = h
 where_fits k false h = tt
 
@@ -51,28 +51,28 @@ select_fits : (save : Bool) (told : ℕ) (list : List ℕ) → IsFaultIf class.M
 select_fits true told list = refl
 select_fits false told list = list_fits told list
 
-pub fields_fit : (kind : Kind) (r : Request) (bytes : List ℕ) → IsFaultIf (class_of r) (field_fault_of kind r bytes)
-fields_fit kind request.TestUnitReady bytes = tt
-fields_fit kind request.Rewind bytes = tt
-fields_fit kind (request.RequestSense desc l) bytes = tt
-fields_fit kind request.ReadBlockLimits bytes = tt
-fields_fit kind request.InitializeElementStatus bytes = tt
-fields_fit kind (request.Read sili fixed l) bytes = where_fits class.Read _ refl
-fields_fit kind (request.Write fixed l) bytes = write_fits fixed l bytes
-fields_fit kind (request.WriteFilemarks wsmk immed l) bytes = where_fits class.WriteFilemarks wsmk refl
-fields_fit kind (request.Space code l) bytes = where_fits class.Space _ refl
-fields_fit kind (request.Inquiry evpd page l) bytes = tt
-fields_fit kind (request.ModeSelect sp l) bytes = select_fits sp l bytes
-fields_fit kind request.Erase bytes = tt
-fields_fit kind (request.ModeSense dbd pc page subpage l) bytes = sense_fits _ _
-fields_fit kind (request.LoadUnload hold eot load) bytes = where_fits class.LoadUnload _ refl
-fields_fit kind (request.PreventAllowMediumRemoval prevent) bytes = tt
-fields_fit kind (request.Locate bt cp l) bytes = where_fits class.Locate _ refl
-fields_fit kind request.ReadPosition bytes = tt
-fields_fit kind (request.PersistentReserveIn action l) bytes = tt
-fields_fit kind (request.PersistentReserveOut action scope_type l) bytes = tt
-fields_fit kind (request.ReportLuns select l) bytes = tt
-fields_fit kind (request.MoveMedium transport source destination invert) bytes = where_fits class.MoveMedium invert refl
-fields_fit kind (request.ReadElementStatus voltag type_code start count true dvcid l) bytes = where_fits class.ReadElementStatusCurdata _ refl
-fields_fit kind (request.ReadElementStatus voltag type_code start count false dvcid l) bytes = where_fits class.ReadElementStatus _ refl
-fields_fit kind (request.Host command) bytes = tt
+pub spec_fits : (kind : Kind) (r : Request) (bytes : List ℕ) → IsFaultIf (class_of r) (spec_field_fault kind r bytes)
+spec_fits kind request.TestUnitReady bytes = tt
+spec_fits kind request.Rewind bytes = tt
+spec_fits kind (request.RequestSense desc l) bytes = tt
+spec_fits kind request.ReadBlockLimits bytes = tt
+spec_fits kind request.InitializeElementStatus bytes = tt
+spec_fits kind (request.Read sili fixed l) bytes = where_fits class.Read _ refl
+spec_fits kind (request.Write fixed l) bytes = write_fits fixed l bytes
+spec_fits kind (request.WriteFilemarks wsmk immed l) bytes = where_fits class.WriteFilemarks wsmk refl
+spec_fits kind (request.Space code l) bytes = where_fits class.Space _ refl
+spec_fits kind (request.Inquiry evpd page l) bytes = tt
+spec_fits kind (request.ModeSelect sp l) bytes = select_fits sp l bytes
+spec_fits kind request.Erase bytes = tt
+spec_fits kind (request.ModeSense dbd pc page subpage l) bytes = sense_fits _ _
+spec_fits kind (request.LoadUnload hold eot load) bytes = where_fits class.LoadUnload _ refl
+spec_fits kind (request.PreventAllowMediumRemoval prevent) bytes = tt
+spec_fits kind (request.Locate bt cp object partition) bytes = where_fits class.Locate _ refl
+spec_fits kind request.ReadPosition bytes = tt
+spec_fits kind (request.PersistentReserveIn action l) bytes = tt
+spec_fits kind (request.PersistentReserveOut action scope_type l) bytes = tt
+spec_fits kind (request.ReportLuns select l) bytes = tt
+spec_fits kind (request.MoveMedium transport source destination invert) bytes = where_fits class.MoveMedium invert refl
+spec_fits kind (request.ReadElementStatus voltag type_code start count true dvcid l) bytes = where_fits class.ReadElementStatusCurdata _ refl
+spec_fits kind (request.ReadElementStatus voltag type_code start count false dvcid l) bytes = where_fits class.ReadElementStatus _ refl
+spec_fits kind (request.Host command) bytes = tt

@@ -7,6 +7,7 @@ use Rattle.tape_medium.specs.declared.elements.MapFault.{MapFault}
 use Rattle.tape_medium.specs.declared.elements.MapFault.TheVariants.{BadAddress}
 use Rattle.tape_medium.specs.Elements.{Elements, Element, Transport, DataTransfer, ImportExport, Storage, Nowhere, first_data_transfer, first_import_export, first_storage, is_among, element_at, tag_of, tag_held, held_in, taken, put, refusal, move_refusal, takes, puts}
 use Rattle.device_server.specs.View as device
+use Rattle.device_server.specs.HostChanger.{ChangerView}
 use Rattle.device_server.specs.View.{DeviceView, Changer}
 use Rattle.device_server.specs.declared.fault.PutFault.{PutFault}
 use Rattle.device_server.specs.declared.fault.TakeFault.{TakeFault}
@@ -66,30 +67,31 @@ comes_out e (Storage i) tag h other = full_place e (Storage i) tag (slice_index_
 comes_out e Nowhere tag h other = absurd cc
 
 -- the device answers as its map does
-abbrev pub as_put : Result Elements MapFault → Result DeviceView PutFault
-as_put r = elim r [ Ok after ↦ Ok (Changer after) | Err fault ↦ Err (device.put_fault_of fault) ]
+abbrev pub as_put : ChangerView → Result Elements MapFault → Result DeviceView PutFault
+as_put c r = elim r [ Ok after ↦ Ok (Changer (record c { elements = after })) | Err fault ↦ Err (device.put_fault_of fault) ]
 
-abbrev pub as_taken : Result (Elements × Volume) MapFault → Result (Volume × DeviceView) TakeFault
-as_taken r = elim r [ Ok it ↦ Ok (it.1, Changer it.0) | Err fault ↦ Err (device.take_fault_of fault) ]
+abbrev pub as_taken : ChangerView → Result (Elements × Volume) MapFault → Result (Volume × DeviceView) TakeFault
+as_taken c r = elim r [ Ok it ↦ Ok (it.1, Changer (record c { elements = it.0 })) | Err fault ↦ Err (device.take_fault_of fault) ]
 
-puts_ok : (r : Result Elements MapFault) → IsOk r → IsOk (as_put r)
-puts_ok (Ok after) h = refl
-puts_ok (Err fault) h = absurd cc
+puts_ok : (c : ChangerView) (r : Result Elements MapFault) → IsOk r → IsOk (as_put c r)
+puts_ok c (Ok after) h = refl
+puts_ok c (Err fault) h = absurd cc
 
-takes_ok : (r : Result (Elements × Volume) MapFault) → IsOk r → IsOk (as_taken r)
-takes_ok (Ok it) h = refl
-takes_ok (Err fault) h = absurd cc
+takes_ok : (c : ChangerView) (r : Result (Elements × Volume) MapFault) → IsOk r → IsOk (as_taken c r)
+takes_ok c (Ok it) h = refl
+takes_ok c (Err fault) h = absurd cc
 
-ways_by : (transport : Bool) (e : Elements) (r : Route) → cond transport (refusal (tag_held e (element_at e r.source)) (tag_held e (element_at e r.destination))) (Some BadAddress) ≡ None
-    → r.from ≡ drive_at (length e.data_transfer) r.source → r.to ≡ drive_at (length e.data_transfer) r.destination → HasWays (Changer e) r
-ways_by false e r h from to = absurd cc
-ways_by true e r h from to =
+ways_by : (transport : Bool) (c : ChangerView) (r : Route) → cond transport (refusal (tag_held c.elements (element_at c.elements r.source)) (tag_held c.elements (element_at c.elements r.destination))) (Some BadAddress) ≡ None
+    → r.from ≡ drive_at (length c.elements.data_transfer) r.source → r.to ≡ drive_at (length c.elements.data_transfer) r.destination → HasWays (Changer c) r
+ways_by false c r h from to = absurd cc
+ways_by true c r h from to =
+    let e = c.elements in
     let free = not_refused (tag_held e (element_at e r.source)) (tag_held e (element_at e r.destination)) h in
     record {
-      source = λ none. takes_ok (takes e r.source) (comes_out e (element_at e r.source) free.tag free.source (λ l. no_drive e r.source l (sym from ∙ none)));
-      destination = λ none volume. puts_ok (puts e r.destination volume) (goes_in e (element_at e r.destination) volume free.destination (λ l. no_drive e r.destination l (sym to ∙ none)));
+      source = λ none. takes_ok c (takes e r.source) (comes_out e (element_at e r.source) free.tag free.source (λ l. no_drive e r.source l (sym from ∙ none)));
+      destination = λ none volume. puts_ok c (puts e r.destination volume) (goes_in e (element_at e r.destination) volume free.destination (λ l. no_drive e r.destination l (sym to ∙ none)));
     }
 
-pub has_ways : (e : Elements) (transport : ℕ) (r : Route) → move_refusal e transport r.source r.destination ≡ None
-    → r.from ≡ drive_at (length e.data_transfer) r.source → r.to ≡ drive_at (length e.data_transfer) r.destination → HasWays (Changer e) r
-has_ways e transport r h from to = ways_by (transport == 0) e r h from to
+pub has_ways : (c : ChangerView) (transport : ℕ) (r : Route) → move_refusal c.elements transport r.source r.destination ≡ None
+    → r.from ≡ drive_at (length c.elements.data_transfer) r.source → r.to ≡ drive_at (length c.elements.data_transfer) r.destination → HasWays (Changer c) r
+has_ways c transport r h from to = ways_by (transport == 0) c r h from to

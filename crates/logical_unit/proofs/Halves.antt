@@ -8,7 +8,7 @@ use Rattle.scsi_sense.specs.declared.condition.Condition.TheVariants.{InternalTa
 use Rattle.tape_medium.specs.declared.volume.Volume.{Volume}
 use Rattle.tape_medium.specs.declared.volume.VolumeTag.{VolumeTag}
 use Rattle.audit_log.specs.declared.act.Act.TheVariants.{MediumIn, MediumOut}
-use Rattle.device_server.specs.View.{DeviceView, kind_of, held_in, taken, put}
+use Rattle.device_server.specs.View.{DeviceView, kind_of, held_in, taken, put, journeyed}
 use Rattle.device_server.specs.declared.fault.PutFault.{PutFault}
 use Rattle.device_server.specs.declared.fault.TakeFault.{TakeFault}
 use Rattle.judgement.specs.UnitState.{is_prevented, with_medium}
@@ -16,9 +16,12 @@ use Rattle.logical_unit.specs.declared.medium_fault.MediumFault.{MediumFault}
 use Rattle.logical_unit.specs.declared.medium_fault.MediumFault.TheVariants.{NotADrive, Prevented}
 use Rattle.logical_unit.specs.declared.route.Route.{Route}
 use Rattle.logical_unit.specs.Medium.{taken_as, taken_out, put_as, put_in}
-use Rattle.logical_unit.specs.Move.{condition_of_medium, names_held, given, received, noting, unloaded, loaded, passed}
+use Rattle.logical_unit.specs.declared.move_judgement.MoveStop.{MoveStop}
+use Rattle.logical_unit.specs.declared.move_judgement.MoveStop.TheVariants.{Refused, Busy}
+use Rattle.logical_unit.specs.MoveJudgement.{StopsMove}
+use Rattle.logical_unit.specs.Move.{condition_of_medium, names_held, given, received, noting, unloaded, loaded, passed, on_its_way}
 use Rattle.logical_unit.specs.Step.{with_event}
-use Rattle.logical_unit.specs.UnitView.{UnitView}
+use Rattle.logical_unit.specs.UnitView.{UnitView, UnitWithRoom, with_device}
 
 -- results as functions of what they hold
 abbrev pub ok_with : Volume → DeviceView → Result (Volume × DeviceView) TakeFault
@@ -220,3 +223,41 @@ passed_given changer giver taker r after e f (Err condition) there h = absurd cc
 
 pub is_passed : (changer : DeviceView) (giver taker : UnitView) (r : Route) (after : DeviceView) (e f : UnitView) → passed changer giver taker r ≡ Ok (after, e, f) → IsPassed changer giver taker r after e f
 is_passed changer giver taker r after e f h = passed_given changer giver taker r after e f (given (held_in changer r.source) giver) refl h
+
+-- THE JOURNEY. What was carried, and the changer before it noted from where
+pub record Came {A : Type 0} (r : Route) (carried : Result (DeviceView × A) Condition) (device : DeviceView) (after : A) : Type 0 where
+  pub mid : DeviceView
+  pub carries : carried ≡ Ok (mid, after)
+  pub notes : device ≡ journeyed mid r.source r.destination
+
+pub came : {A : Type 0} (r : Route) (carried : Result (DeviceView × A) Condition) (device : DeviceView) (after : A) → on_its_way r carried ≡ Ok (device, after) → Came r carried device after
+came {A} r (Ok it) device after h =
+    let is : ◌≡◌ {A = DeviceView × A} (journeyed it.0 r.source r.destination, it.1) (device, after) = cc in
+    record {
+      mid = it.0;
+      carries = ap (λ (x : A). Ok (it.0, x)) (ap (λ (p : DeviceView × A). p.1) is);
+      notes = sym (ap (λ (p : DeviceView × A). p.0) is);
+    }
+came {A} r (Err condition) device after h = absurd cc
+
+-- and why nothing is carried is no other reason then
+pub stops_on_its_way : {A : Type 0} (r : Route) (carried : Result (DeviceView × A) Condition) (Lacks : Type 0) (stop : MoveStop)
+    → StopsMove carried Lacks stop → StopsMove (on_its_way r carried) Lacks stop
+stops_on_its_way r (Ok it) Lacks (Refused condition) stops = absurd cc
+stops_on_its_way r (Err reason) Lacks (Refused condition) stops = stops
+stops_on_its_way r (Ok it) Lacks Busy stops = (refl, stops.1)
+stops_on_its_way r (Err reason) Lacks Busy stops = let no = stops.0 in absurd cc
+
+-- a unit whose device noted the way of what was carried
+abbrev pub carried_at : {A : Type 0} → A → UnitWithRoom → Result (DeviceView × A) Condition
+carried_at after x = Ok (x.unit.device, after)
+
+pub carried_on : {A : Type 0} (r : Route) (carried : Result (DeviceView × A) Condition) (mid new : UnitWithRoom) (after : A)
+    → carried ≡ Ok (mid.unit.device, after) → new ≡ with_device mid (journeyed mid.unit.device r.source r.destination)
+    → on_its_way r carried ≡ Ok (new.unit.device, after)
+carried_on r carried mid new after carries noted = ap (on_its_way r) carries ∙ ap (carried_at after) (sym noted)
+
+pub changer_after : (old mid new : UnitWithRoom) (device : DeviceView) → mid ≡ with_device old mid.unit.device → new ≡ with_device mid device
+    → new ≡ with_device old new.unit.device
+changer_after old mid new device same noted =
+    noted ∙ ap (λ (x : UnitWithRoom). with_device x device) same ∙ ap (with_device old) (sym (ap (λ (x : UnitWithRoom). x.unit.device) noted))

@@ -28,26 +28,27 @@ busy_keeps v n (Ok (RequestSense d l)) = refl
 busy_keeps v n (Ok (Prevent p)) = refl
 busy_keeps v n (Ok (Device r)) = refl
 
--- a unit with the same device, its number, its target's units, and what the history says of its reservations
+-- a unit with the same device, its number, its target's units and their profile, and what the history says of its reservations
 pub record Stays (u : UnitView) (n : Nexus) (c : Result Command Condition) (x : UnitView × Reply) : Type 0 where
   pub device : IsSameDevice u.device x.0.device
   pub lun : x.0.state.lun ≡ u.state.lun
   pub units : x.0.state.units ≡ u.state.units
+  pub profile : x.0.state.profile ≡ u.state.profile
   pub reservations : x.0.state.reservations ≡ after_history u.state.reservations (accepted_as n x.1.status c)
 
 pub executes_stays : (u v : UnitView) (n : Nexus) (cdb bytes : List ℕ) (r : Reply) → Executes u n cdb bytes (v, r) → Stays u n (decoded_command (commands_of u.device) cdb bytes) (v, r)
 executes_stays u v n cdb bytes r (inl e) =
     let c = decoded_command (commands_of u.device) cdb bytes in
-    subst (Stays u n c) (sym e) (record { device = record { kind = refl; profile = refl; drives = refl }; lun = refl; units = refl; reservations = busy_keeps u.state.reservations n c })
+    subst (Stays u n c) (sym e) (record { device = record { kind = refl; profile = refl; identity = refl; drives = refl }; lun = refl; units = refl; profile = refl; reservations = busy_keeps u.state.reservations n c })
 executes_stays u v n cdb bytes r (inr e) =
     let c = decoded_command (commands_of u.device) cdb bytes in
     let judged = judged_is (contacted_present u n) n c bytes in
-    subst (Stays u n c) (sym e.2) (record { device = judged.same.device.device; lun = judged.same.lun; units = judged.same.units; reservations = judged.reservations })
+    subst (Stays u n c) (sym e.2) (record { device = judged.same.device.device; lun = judged.same.lun; units = judged.same.units; profile = judged.same.profile; reservations = judged.reservations })
 
 -- and no command of one unit changes the marks of its device
 pub executes_marks : (u v : UnitView) (n : Nexus) (cdb bytes : List ℕ) (r : Reply) → Executes u n cdb bytes (v, r) → KeepsMarks u.device v.device
 executes_marks u v n cdb bytes r (inl e) =
-    subst (λ (x : UnitView × Reply). KeepsMarks u.device x.0.device) (sym e) (record { device = record { kind = refl; profile = refl; drives = refl }; marks = refl })
+    subst (λ (x : UnitView × Reply). KeepsMarks u.device x.0.device) (sym e) (record { device = record { kind = refl; profile = refl; identity = refl; drives = refl }; marks = refl })
 executes_marks u v n cdb bytes r (inr e) =
     subst (λ (x : UnitView × Reply). KeepsMarks u.device x.0.device) (sym e.2) (judged_is (contacted_present u n) n (decoded_command (commands_of u.device) cdb bytes) bytes).same.device
 

@@ -11,8 +11,8 @@ use Rattle.unit_attention.specs.declared.kind.Kind.{Kind}
 use Rattle.unit_attention.specs.Queues.{first_other_of}
 use Rattle.permit_tables.specs.declared.cell.Cell.{Cell}
 use Rattle.pr_core.specs.declared.verdict.Verdict.{Verdict}
-use Rattle.tape_medium.specs.Elements.{Elements}
 use Rattle.device_server.specs.Failures.{is_failure, is_for_drives}
+use Rattle.device_server.specs.HostChanger.{ChangerView}
 use Rattle.device_server.specs.View.{DeviceView, Drive, Changer, kind_of, performed}
 use Rattle.device_server.proofs.FailureLemmas.{changers_fail_for_drives}
 use Rattle.judgement.specs.declared.command.Command.{Command}
@@ -30,7 +30,7 @@ use Rattle.judgement.specs.UnitState.{after_contact}
 use Rattle.judgement.specs.UnitStateView.{UnitStateView}
 use Rattle.logical_unit.specs.Move.{is_left}
 use Rattle.logical_unit.specs.MoveFinding.{leaves, spells_move}
-use Rattle.logical_unit.proofs.LeftToDrives.{GoesOn, left_is_own, left_answer, by_field}
+use Rattle.logical_unit.proofs.LeftToDrives.{GoesOn, inverted_performs, move_performs, left_is_own, left_answer, by_field}
 
 -- a test that doesn't hold
 is_false : (b : Bool) → (b ≡ true → ⊥) → b ≡ false
@@ -54,56 +54,59 @@ comes u n c goes =
     ∙ ap (λ (o : Option Kind). is_none o) goes.clear
 
 -- A MOVE AT A CHANGER, by its own rules
-own_fails : (e : Elements) (k : UnitStateView) (n : Nexus) (t s d : ℕ) (i : Bool) (bytes : List ℕ)
-    → is_left (carried_out (record { device = Changer e; state = k }) n (Device (request.MoveMedium t s d i)) bytes).2.sense ≡ is_for_drives
-    e (request.MoveMedium t s d i)
-own_fails e k n t s d true bytes = refl
-own_fails e k n t s d false bytes = left_fails (performed (Changer e) (request.MoveMedium t s d false) bytes).1.sense ∙
-    changers_fail_for_drives e (request.MoveMedium t s d false) bytes
+own_fails : (v : ChangerView) (k : UnitStateView) (n : Nexus) (t s d : ℕ) (i : Bool) (bytes : List ℕ)
+    → is_left (carried_out (record { device = Changer v; state = k }) n (Device (request.MoveMedium t s d i)) bytes).2.sense ≡ is_for_drives
+    v.elements (request.MoveMedium t s d i)
+own_fails v k n t s d true bytes =
+    ap (λ (x : JudgedUnit × Decision × Reply). is_left x.2.sense) (inverted_performs (record { device = Changer v; state = k }) n t s d bytes)
+own_fails v k n t s d false bytes =
+    ap (λ (x : JudgedUnit × Decision × Reply). is_left x.2.sense) (move_performs (record { device = Changer v; state = k }) n t s d bytes)
+    ∙ left_fails (performed (Changer v) (request.MoveMedium t s d false) bytes).1.sense
+    ∙ changers_fail_for_drives v (request.MoveMedium t s d false) bytes
 
 -- one that is left
-pub record IsLeftUnasked (e : Elements) (k : UnitStateView) (n : Nexus) (t s d : ℕ) (i : Bool) : Type 0 where
-  pub comes : is_carried_out (record { device = Changer e; state = k }) n (Device (request.MoveMedium t s d i)) ≡ true
-  pub for_drives : is_for_drives e (request.MoveMedium t s d i) ≡ true
+pub record IsLeftUnasked (v : ChangerView) (k : UnitStateView) (n : Nexus) (t s d : ℕ) (i : Bool) : Type 0 where
+  pub comes : is_carried_out (record { device = Changer v; state = k }) n (Device (request.MoveMedium t s d i)) ≡ true
+  pub for_drives : is_for_drives v.elements (request.MoveMedium t s d i) ≡ true
 
-left_unasked : (e : Elements) (k : UnitStateView) (n : Nexus) (t s d : ℕ) (i : Bool) (bytes : List ℕ)
-    → is_left (commanded (record { device = Changer e; state = k }) n (Device (request.MoveMedium t s d i)) bytes).2.sense ≡ true →
-    IsLeftUnasked e k n t s d i
-left_unasked e k n t s d i bytes l =
-    let u : JudgedUnit = record { device = Changer e; state = k } in
+left_unasked : (v : ChangerView) (k : UnitStateView) (n : Nexus) (t s d : ℕ) (i : Bool) (bytes : List ℕ)
+    → is_left (commanded (record { device = Changer v; state = k }) n (Device (request.MoveMedium t s d i)) bytes).2.sense ≡ true →
+    IsLeftUnasked v k n t s d i
+left_unasked v k n t s d i bytes l =
+    let u : JudgedUnit = record { device = Changer v; state = k } in
     let c : Command = Device (request.MoveMedium t s d i) in
     let own = left_is_own u n c bytes l in
     record {
       comes = comes u n c own.goes_on;
-      for_drives = sym (own_fails e k n t s d i bytes) ∙ subst (λ (x : JudgedUnit × Decision × Reply). is_left x.2.sense ≡ true)
+      for_drives = sym (own_fails v k n t s d i bytes) ∙ subst (λ (x : JudgedUnit × Decision × Reply). is_left x.2.sense ≡ true)
           own.by_rules l;
     }
 
 -- what ends before its own rules isn't left
-ends_at : (e : Elements) (old new : UnitStateView) (n : Nexus) (c : Command) (f : Decision) (reply : Reply) (bytes : List ℕ)
+ends_at : (v : ChangerView) (old new : UnitStateView) (n : Nexus) (c : Command) (f : Decision) (reply : Reply) (bytes : List ℕ)
     → spells_move (Ok c) ≡ true → EndsBefore commanded is_carried_out old new n c f reply → is_left reply.sense ≡ false
-ends_at e old new n (Device (request.MoveMedium t s d i)) f reply bytes move h =
-    is_false _ (λ l. apart _ (left_unasked e (after_contact old n) n t s d i bytes
-    (ap (λ (x : JudgedUnit × Decision × Reply). is_left x.2.sense) (h.ended (Changer e) bytes) ∙ l)).comes (h.barred (Changer e)))
-ends_at e old new n c f reply bytes move h = absurd cc
+ends_at v old new n (Device (request.MoveMedium t s d i)) f reply bytes move h =
+    is_false _ (λ l. apart _ (left_unasked v (after_contact old n) n t s d i bytes
+    (ap (λ (x : JudgedUnit × Decision × Reply). is_left x.2.sense) (h.ended (Changer v) bytes) ∙ l)).comes (h.barred (Changer v)))
+ends_at v old new n c f reply bytes move h = absurd cc
 
 pub ends_before : (device : DeviceView) (old new : UnitStateView) (n : Nexus) (s : Result Command Condition) (c : Command) (f : Decision)
     (reply : Reply) (bytes : List ℕ)
     → kind_of device ≡ kind.Changer → s ≡ Ok c → spells_move s ≡ true → EndsBefore commanded is_carried_out old new n c f reply → is_left
     reply.sense ≡ false
-ends_before (Drive v) old new n s c f reply bytes changer is move h = absurd cc
-ends_before (Changer e) old new n s c f reply bytes changer is move h =
-    ends_at e old new n c f reply bytes (subst (λ (x : Result Command Condition). spells_move x ≡ true) is move) h
+ends_before (Drive d) old new n s c f reply bytes changer is move h = absurd cc
+ends_before (Changer v) old new n s c f reply bytes changer is move h =
+    ends_at v old new n c f reply bytes (subst (λ (x : Result Command Condition). spells_move x ≡ true) is move) h
 
 -- nor is what isn't for the drives
-answered_at : (e : Elements) (k : UnitStateView) (n : Nexus) (c : Command) (after : JudgedUnit) (f : Decision) (reply : Reply)
+answered_at : (v : ChangerView) (k : UnitStateView) (n : Nexus) (c : Command) (after : JudgedUnit) (f : Decision) (reply : Reply)
     (bytes : List ℕ)
-    → spells_move (Ok c) ≡ true → leaves (Changer e) c ≡ false → commanded (record { device = Changer e; state = k }) n c bytes ≡
+    → spells_move (Ok c) ≡ true → leaves (Changer v) c ≡ false → commanded (record { device = Changer v; state = k }) n c bytes ≡
     (after, f, reply) → is_left reply.sense ≡ false
-answered_at e k n (Device (request.MoveMedium t s d i)) after f reply bytes move own h =
-    is_false _ (λ l. apart _ (left_unasked e k n t s d i bytes (ap (λ (x : JudgedUnit × Decision × Reply). is_left x.2.sense) h ∙
+answered_at v k n (Device (request.MoveMedium t s d i)) after f reply bytes move own h =
+    is_false _ (λ l. apart _ (left_unasked v k n t s d i bytes (ap (λ (x : JudgedUnit × Decision × Reply). is_left x.2.sense) h ∙
     l)).for_drives own)
-answered_at e k n c after f reply bytes move own h = absurd cc
+answered_at v k n c after f reply bytes move own h = absurd cc
 
 -- a decoded command
 abbrev pub leaves_as : DeviceView → Result Command Condition → Bool
@@ -114,27 +117,31 @@ pub answered_alone : (device : DeviceView) (k : UnitStateView) (n : Nexus) (s : 
     (f : Decision) (reply : Reply) (bytes : List ℕ)
     → kind_of device ≡ kind.Changer → spells_move s ≡ true → leaves_as device s ≡ false
     → judged_as (record { device = device; state = k }) n s bytes ≡ (after, f, reply) → is_left reply.sense ≡ false
-answered_alone (Drive v) k n s after f reply bytes changer move own h = absurd cc
-answered_alone (Changer e) k n (Err condition) after f reply bytes changer move own h = absurd cc
-answered_alone (Changer e) k n (Ok c) after f reply bytes changer move own h = answered_at e k n c after f reply bytes move own h
+answered_alone (Drive d) k n s after f reply bytes changer move own h = absurd cc
+answered_alone (Changer v) k n (Err condition) after f reply bytes changer move own h = absurd cc
+answered_alone (Changer v) k n (Ok c) after f reply bytes changer move own h = answered_at v k n c after f reply bytes move own h
 
 -- and what is left is answered by the device as it was, with nothing changed
-left_by_map : (e : Elements) (k : UnitStateView) (n : Nexus) (c : Command) (at : Cell) (bytes : List ℕ) → spells_move (Ok c) ≡ true → leaves
-    (Changer e) c ≡ true
-    → at_cell at (carried_out (record { device = Changer e; state = k }) n c bytes) ≡ left_answer e k at
-left_by_map e k n (Device (request.MoveMedium t s d i)) at bytes move left = (by_field e k n at t s d i bytes
-    (own_fails e k n t s d i bytes ∙ left)).answer
-left_by_map e k n c at bytes move left = absurd cc
+abbrev found_left : ChangerView → UnitStateView → Decision → JudgedUnit × Decision × Reply
+found_left v k f = (record { device = Changer v; state = k }, f, check InternalTargetFailure)
+
+left_by_map : (v : ChangerView) (k : UnitStateView) (n : Nexus) (c : Command) (at : Cell) (bytes : List ℕ) → spells_move (Ok c) ≡ true → leaves
+    (Changer v) c ≡ true
+    → at_cell at (carried_out (record { device = Changer v; state = k }) n c bytes) ≡ left_answer v k at
+left_by_map v k n (Device (request.MoveMedium t s d i)) at bytes move left = (by_field v k n at t s d i bytes
+    (own_fails v k n t s d i bytes ∙ left)).answer
+left_by_map v k n c at bytes move left = absurd cc
 
 pub left_at : (device : DeviceView) (old new : UnitStateView) (n : Nexus) (s : Result Command Condition) (c : Command) (at : Cell)
-    (bytes : List ℕ)
+    (bytes : List ℕ) (k : UnitStateView) (f : Decision)
     → kind_of device ≡ kind.Changer → s ≡ Ok c → spells_move s ≡ true → leaves device c ≡ true → ComesThrough commanded is_carried_out old
-    new n c at
-    → judged_as (record { device = device; state = after_contact old n }) n s bytes
-    ≡ (record { device = device; state = after_contact new n }, in_cell at (at_device None), check InternalTargetFailure)
-left_at (Drive v) old new n s c at bytes changer is move left h = absurd cc
-left_at (Changer e) old new n s c at bytes changer is move left h =
-    ap (λ (x : Result Command Condition). judged_as (record { device = Changer e; state = after_contact old n }) n x bytes) is
-    ∙ h.carried (Changer e) bytes
-    ∙ left_by_map e (after_contact old n) n c at bytes (subst (λ (x : Result Command Condition). spells_move x ≡ true) is move) left
-    ∙ ap (λ (k : UnitStateView). left_answer e (after_contact k n) at) (sym h.same)
+    new n c at → k ≡ after_contact new n → f ≡ in_cell at (at_device None)
+    → judged_as (record { device = device; state = after_contact old n }) n s bytes ≡ (record { device = device; state = k }, f, check InternalTargetFailure)
+left_at (Drive d) old new n s c at bytes k f changer is move left h kept found = absurd cc
+left_at (Changer v) old new n s c at bytes k f changer is move left h kept found =
+    ap (λ (x : Result Command Condition). judged_as (record { device = Changer v; state = after_contact old n }) n x bytes) is
+    ∙ h.carried (Changer v) bytes
+    ∙ left_by_map v (after_contact old n) n c at bytes (subst (λ (x : Result Command Condition). spells_move x ≡ true) is move) left
+    ∙ ap (λ (j : UnitStateView). left_answer v (after_contact j n) at) (sym h.same)
+    ∙ ap (λ (j : UnitStateView). left_answer v j at) (sym kept)
+    ∙ ap (found_left v k) (sym found)

@@ -2,6 +2,7 @@ pub mod AtOnce
 pub mod History
 pub mod DeviceCommands
 pub mod FieldFaults
+pub mod HostFaults
 pub mod Legal
 pub mod FreeEnds
 pub mod LeftToDrives
@@ -15,6 +16,7 @@ pub mod EndsOf
 pub mod OutsiderLeavesContents
 pub mod Contents
 pub mod Outsiders
+pub mod Profiles
 pub mod Executed
 pub mod HistoryOfRecords
 pub mod MoveBusy

@@ -1,5 +1,5 @@
 -- The drives that a command names, and the route by which it names them.
-use Rattle.std.proofs.Common.{◌≡◌, ◌≤◌, ◌<◌, ◌==◌, ◌-◌, ◌+◌, ℕ, Bool, true, false, List, [], ◌∷◌, Option, Some, None, Result, Ok, Err, refl, sym, ap, ◌∙◌, subst, inl, inr, arith}
+use Rattle.std.proofs.Common.{◌≡◌, ◌≤◌, ◌<◌, ◌==◌, ◌-◌, ◌+◌, ℕ, Bool, true, false, List, [], ◌∷◌, Option, Some, None, Result, Ok, Err, refl, sym, ap, subst, inl, inr, arith}
 use Rattle.std.proofs.lemmas.Bool.Decides.{nat_tests}
 use Rattle.std.specs.Prelude.{cond, nat_lt, ◌⊎◌}
 use Rattle.scsi_cdb.specs.Commands.{decoded}
@@ -45,7 +45,7 @@ decodes_in commands drives cdb request.Erase r reads h = absurd cc
 decodes_in commands drives cdb (request.ModeSense dbd pc page subpage l) r reads h = absurd cc
 decodes_in commands drives cdb (request.LoadUnload hold eot load) r reads h = absurd cc
 decodes_in commands drives cdb (request.PreventAllowMediumRemoval prevent) r reads h = absurd cc
-decodes_in commands drives cdb (request.Locate bt cp l) r reads h = absurd cc
+decodes_in commands drives cdb (request.Locate bt cp l partition) r reads h = absurd cc
 decodes_in commands drives cdb request.ReadPosition r reads h = absurd cc
 decodes_in commands drives cdb (request.PersistentReserveIn action l) r reads h = absurd cc
 decodes_in commands drives cdb (request.PersistentReserveOut action scope_type l) r reads h = absurd cc

@@ -10,8 +10,9 @@ use Rattle.scsi_sense.specs.declared.condition.Condition.{Condition}
 use Rattle.tape_medium.specs.declared.volume.Volume.{Volume}
 use Rattle.tape_medium.specs.declared.volume.VolumeTag.{VolumeTag}
 use Rattle.device_server.specs.Ends.{IsSameDevice}
-use Rattle.device_server.specs.View.{DeviceView, kind_of, commands_of, drives_of, marked}
+use Rattle.device_server.specs.View.{DeviceView, kind_of, commands_of, drives_of, marked, journeyed}
 use Rattle.device_server.specs.declared.fault.BadPlace.{BadPlace}
+use Rattle.device_server.proofs.SameDevice.{journey_same}
 use Rattle.device_server.proofs.MarkLemmas.{drives_give, drives_get, changers_give, changers_get, marks_one}
 use Rattle.judgement.specs.History.{accepted_as, after_history}
 use Rattle.judgement.specs.Conditions.{condition_of_fault}
@@ -21,40 +22,40 @@ use Rattle.judgement.specs.Commands.{command_of, decoded_command}
 use Rattle.judgement.specs.declared.command.Command.{Command}
 use Rattle.judgement.specs.declared.command.Command.TheVariants.{Device}
 use Rattle.logical_unit.specs.Medium.{taken_out, put_in}
-use Rattle.logical_unit.specs.Move.{TwoDrives, noting, unloaded, loaded, passed, carried_by_one, carried_one, upward, downward, carried_two, route_at, MovesOne, MovesTwo, IsSameUnit}
+use Rattle.logical_unit.specs.Move.{TwoDrives, noting, unloaded, loaded, passed, carried_by_one, carried_one, upward, downward, carried_by_two, carried_two, route_at, MovesOne, MovesTwo, IsSameUnit}
 use Rattle.logical_unit.specs.Route.{named, is_upward}
 use Rattle.logical_unit.specs.Step.{Executes}
 use Rattle.logical_unit.specs.UnitView.{UnitView}
 use Rattle.logical_unit.specs.declared.route.Route.{Route}
-use Rattle.logical_unit.proofs.Halves.{is_out, is_in, is_unloaded, is_loaded, is_passed}
+use Rattle.logical_unit.proofs.Halves.{is_out, is_in, is_unloaded, is_loaded, is_passed, came}
 use Rattle.logical_unit.proofs.History.{executes_stays}
 use Rattle.logical_unit.proofs.Moved.{Ends, Became, one_became, two_became}
 use Rattle.logical_unit.proofs.NamedDrives.{HasRoute, has_route}
 
 pub same_unit : (u : UnitView) → IsSameUnit u u
-same_unit u = record { device = record { kind = refl; profile = refl; drives = refl }; lun = refl; units = refl; reservations = refl }
+same_unit u = record { device = record { kind = refl; profile = refl; identity = refl; drives = refl }; lun = refl; units = refl; profile = refl; reservations = refl }
 
 unit_is : (u v w : UnitView) → w ≡ v → IsSameUnit u v → IsSameUnit u w
 unit_is u v w is same = subst (λ (x : UnitView). IsSameUnit u x) (sym is) same
 
 then_same : (a b c : DeviceView) → IsSameDevice a b → IsSameDevice b c → IsSameDevice a c
-then_same a b c p q = record { kind = q.kind ∙ p.kind; profile = q.profile ∙ p.profile; drives = q.drives ∙ p.drives }
+then_same a b c p q = record { kind = q.kind ∙ p.kind; profile = q.profile ∙ p.profile; identity = q.identity ∙ p.identity; drives = q.drives ∙ p.drives }
 
 -- THE DRIVES
 pub out_same : (d e : UnitView) (v : Volume) → taken_out d ≡ Ok (v, e) → IsSameUnit d e
 out_same d e v h =
     let out = is_out d e v h in
-    unit_is d _ e out.unit (record { device = (drives_give d.device out.device 0 v out.kind out.taken).device; lun = refl; units = refl; reservations = refl })
+    unit_is d _ e out.unit (record { device = (drives_give d.device out.device 0 v out.kind out.taken).device; lun = refl; units = refl; profile = refl; reservations = refl })
 
 pub in_same : (d e : UnitView) (v : Volume) → put_in d v ≡ Ok e → IsSameUnit d e
 in_same d e v h =
     let come = is_in d e v h in
-    unit_is d _ e come.unit (record { device = (drives_get d.device come.device 0 v come.kind come.put).device; lun = refl; units = refl; reservations = refl })
+    unit_is d _ e come.unit (record { device = (drives_get d.device come.device 0 v come.kind come.put).device; lun = refl; units = refl; profile = refl; reservations = refl })
 
 -- THE CHANGER
 noted_same : (device : DeviceView) (address : ℕ) (tag : Option VolumeTag) (o : Result DeviceView BadPlace) → marked device address tag ≡ o → IsSameDevice device (elim o [ Ok after ↦ after | Err fault ↦ device ])
 noted_same device address tag (Ok after) h = (marks_one device after address tag h).device
-noted_same device address tag (Err fault) h = record { kind = refl; profile = refl; drives = refl }
+noted_same device address tag (Err fault) h = record { kind = refl; profile = refl; identity = refl; drives = refl }
 
 pub noting_same : (device : DeviceView) (address : ℕ) (tag : Option VolumeTag) → IsSameDevice device (noting device address tag)
 noting_same device address tag = noted_same device address tag (marked device address tag) refl
@@ -66,6 +67,10 @@ pub record OneSame (c : DeviceView) (d : UnitView) (device : DeviceView) (e : Un
 
 device_is : (a b c : DeviceView) → c ≡ b → IsSameDevice a b → IsSameDevice a c
 device_is a b c is same = subst (λ (x : DeviceView). IsSameDevice a x) (sym is) same
+
+noted_on_its_way : (c mid device : DeviceView) (r : Route) → IsSameDevice c mid → device ≡ journeyed mid r.source r.destination → IsSameDevice c device
+noted_on_its_way c mid device r same notes =
+    device_is c (journeyed mid r.source r.destination) device notes (then_same c mid (journeyed mid r.source r.destination) same (journey_same mid r.source r.destination))
 
 unloaded_same : (c : DeviceView) (d : UnitView) (r : Route) (device : DeviceView) (e : UnitView) → kind_of c ≡ kind.Changer → unloaded c d r ≡ Ok (device, e) → OneSame c d device e
 unloaded_same c d r device e k h =
@@ -91,7 +96,10 @@ by_one_same c d r (Some l) (Some m) device e k h = absurd cc
 
 carried_one_same : (c : DeviceView) (d : UnitView) (o : Option Route) (device : DeviceView) (e : UnitView) → kind_of c ≡ kind.Changer → carried_one c d o ≡ Ok (device, e) → OneSame c d device e
 carried_one_same c d None device e k h = absurd cc
-carried_one_same c d (Some r) device e k h = by_one_same c d r r.from r.to device e k h
+carried_one_same c d (Some r) device e k h =
+    let w = came r (carried_by_one c d r r.from r.to) device e h in
+    let s = by_one_same c d r r.from r.to w.mid e k w.carries in
+    record { changer = noted_on_its_way c w.mid device r s.changer w.notes; drive = s.drive }
 
 pub record TwoSame (c : DeviceView) (ds : TwoDrives) (device : DeviceView) (es : TwoDrives) : Type 0 where
   pub changer : IsSameDevice c device
@@ -131,7 +139,10 @@ by_way_same c ds r false device es h = downward_same c ds r device es (passed c 
 
 carried_two_same : (c : DeviceView) (ds : TwoDrives) (o : Option Route) (device : DeviceView) (es : TwoDrives) → carried_two c ds o ≡ Ok (device, es) → TwoSame c ds device es
 carried_two_same c ds None device es h = absurd cc
-carried_two_same c ds (Some r) device es h = by_way_same c ds r (is_upward r.from r.to) device es h
+carried_two_same c ds (Some r) device es h =
+    let w = came r (carried_by_two c ds r) device es h in
+    let s = by_way_same c ds r (is_upward r.from r.to) w.mid es w.carries in
+    record { changer = noted_on_its_way c w.mid device r s.changer w.notes; low = s.low; high = s.high }
 
 -- THE UNITS. A MOVE MEDIUM accepts nothing
 pub decodes_move : (device : DeviceView) (cdb bytes : List ℕ) (l : ℕ) (more : List ℕ) (route : HasRoute device cdb l more) → decoded_command (commands_of device) cdb bytes ≡ Ok (Device (MoveMedium route.decodes.transport route.route.source route.route.destination route.decodes.invert))
@@ -145,11 +156,12 @@ alone_same c v n cdb bytes r l more route e =
       device = s.device;
       lun = s.lun;
       units = s.units;
+      profile = s.profile;
       reservations = s.reservations ∙ ap (λ (x : Result Command Condition). after_history c.state.reservations (accepted_as n r.status x)) (decodes_move c.device cdb bytes l more route);
     }
 
 ends_same : (c v : UnitView) (n : Nexus) (cdb bytes : List ℕ) (r : Reply) (device : DeviceView) (reply : Reply) → Ends c v n cdb bytes r device reply → IsSameDevice c.device device → IsSameUnit c v
-ends_same c v n cdb bytes r device reply ends same = unit_is c _ v (ap (λ (x : UnitView × Reply). x.0) ends.unit) (record { device = same; lun = refl; units = refl; reservations = refl })
+ends_same c v n cdb bytes r device reply ends same = unit_is c _ v (ap (λ (x : UnitView × Reply). x.0) ends.unit) (record { device = same; lun = refl; units = refl; profile = refl; reservations = refl })
 
 pub one_same : (c d v e : UnitView) (n : Nexus) (cdb bytes : List ℕ) (r : Reply) (l : ℕ) (more : List ℕ) → named (commands_of c.device) (drives_of c.device) cdb ≡ l ∷ more → MovesOne c d n cdb bytes ((v, r), e) → IsSameUnit c v × IsSameUnit d e
 one_same c d v e n cdb bytes r l more names moves =
@@ -158,7 +170,7 @@ one_same c d v e n cdb bytes r l more names moves =
     λ b. elim b [
       | inl alone ↦ (alone_same c v n cdb bytes r l more route alone.0, unit_is d d e alone.1 (same_unit d))
       | inr left ↦ elim left [
-        | inl halted ↦ (ends_same c v n cdb bytes r c.device (check halted.condition) halted.ends (record { kind = refl; profile = refl; drives = refl }), unit_is d d e halted.drives_stay (same_unit d))
+        | inl halted ↦ (ends_same c v n cdb bytes r c.device (check halted.condition) halted.ends (record { kind = refl; profile = refl; identity = refl; drives = refl }), unit_is d d e halted.drives_stay (same_unit d))
         | inr moved ↦
             let s = carried_one_same c.device d (route_at c cdb) moved.device e route.changer moved.is in
             (ends_same c v n cdb bytes r moved.device (good []) moved.ends s.changer, s.drive)
@@ -175,7 +187,7 @@ two_same c v ds es n cdb bytes r l more names moves =
       | inl alone ↦ (alone_same c v n cdb bytes r l more route alone.0, unit_is ds.low ds.low es.low (ap (λ (x : TwoDrives). x.low) alone.1) (same_unit ds.low), unit_is ds.high ds.high es.high (ap (λ (x : TwoDrives). x.high) alone.1) (same_unit ds.high))
       | inr left ↦ elim left [
         | inl halted ↦ (
-          ends_same c v n cdb bytes r c.device (check halted.condition) halted.ends (record { kind = refl; profile = refl; drives = refl }),
+          ends_same c v n cdb bytes r c.device (check halted.condition) halted.ends (record { kind = refl; profile = refl; identity = refl; drives = refl }),
           unit_is ds.low ds.low es.low (ap (λ (x : TwoDrives). x.low) halted.drives_stay) (same_unit ds.low),
           unit_is ds.high ds.high es.high (ap (λ (x : TwoDrives). x.high) halted.drives_stay) (same_unit ds.high),
         )

@@ -2,8 +2,9 @@
 use Rattle.std.specs.Prelude.{◌≡◌, ◌↔◌, Bool, true, false, List, [], ◌∷◌, Option, None, Some, if◌then◌else◌, ◌⊎◌}
 use Rattle.std.specs.List.{All, flat_map}
 use Rattle.scsi_cdb.specs.declared.classes.Class.{Class}
-use Rattle.scsi_cdb.specs.declared.classes.Class.TheVariants.{TestUnitReady, Rewind, ReadBlockLimits, InitializeElementStatus, Erase, ReadPosition, Inquiry, ReportLuns, RequestSense, PersistentReserveIn, PreventRemoval, AllowRemoval, ModeSense, ModeSelect, Register, Reserve, Release, Clear, Preempt, PreemptAndAbort, RegisterAndIgnoreExistingKey, RegisterAndMove, SendDiagnostic, LogSelect, LogSense, ModeSelect10, ModeSense10, ReportSupportedOperationCodes, ReportSupportedTaskManagementFunctions}
+use Rattle.scsi_cdb.specs.declared.classes.Class.TheVariants.{TestUnitReady, Rewind, ReadBlockLimits, InitializeElementStatus, Erase, ReadPosition, Inquiry, ReportLuns, RequestSense, PersistentReserveIn, PreventRemoval, AllowRemoval, ModeSense, ModeSelect, Register, Reserve, Release, Clear, Preempt, PreemptAndAbort, RegisterAndIgnoreExistingKey, RegisterAndMove, LogSelect, ModeSelect10, ModeSense10, ReportSupportedTaskManagementFunctions}
 use Rattle.scsi_cdb.specs.Classes.{class_of_action}
+use Rattle.scsi_cdb.specs.declared.profile.Profile.{Profile}
 use Rattle.scsi_nexus.specs.declared.nexus.Nexus.{Nexus}
 use Rattle.scsi_sense.specs.declared.condition.Condition.{Condition}
 use Rattle.scsi_sense.specs.declared.condition.Condition.TheVariants.{InvalidCommandOperationCode, InvalidFieldInCdb, InvalidFieldInParameterList, ParameterListLengthError, SavingParametersNotSupported}
@@ -89,10 +90,10 @@ pub record Says (e : Record) (decision : Decision) (reply : Reply) : Type 0 wher
   pub status : e.status ≡ reply.status
   pub sense : e.sense ≡ reply.sense
 
--- only a command that ended GOOD told the others something, and only what its class tells: a MODE SELECT that it changed the mode
--- parameters
-pub record ToldOthers (e : Record) (asked : Class) (kind : Kind) : Type 0 where
-  pub class : told_by asked ≡ Some kind
+-- only a command that ended GOOD told the others something, and only what its class tells in a profile: a MODE SELECT that it changed the
+-- mode parameters
+pub record ToldOthers (profile : Profile) (e : Record) (asked : Class) (kind : Kind) : Type 0 where
+  pub class : told_by profile asked ≡ Some kind
   pub stage : e.stage ≡ Device
   pub status : e.status ≡ Good
 
@@ -106,7 +107,8 @@ is_of_every_unit PreventRemoval = true
 is_of_every_unit AllowRemoval = true
 is_of_every_unit class = false
 
--- what may be reported of the fields of a CDB: 24h/00h; of MODE SENSE also 39h/00h; of MODE SELECT also 1Ah/00h and 26h/00h, of its list
+-- what may be reported of the fields of a CDB: 24h/00h; of MODE SENSE also 39h/00h; of MODE SELECT and LOG SELECT also 1Ah/00h and 26h/00h, of
+-- their lists
 abbrev pub is_of_cdb : Condition → Bool
 is_of_cdb InvalidFieldInCdb = true
 is_of_cdb condition = false
@@ -132,15 +134,12 @@ is_field_fault Erase condition = false
 is_field_fault ReadPosition condition = false
 is_field_fault PersistentReserveIn condition = false
 is_field_fault AllowRemoval condition = false
-is_field_fault SendDiagnostic condition = false
-is_field_fault LogSelect condition = false
-is_field_fault LogSense condition = false
-is_field_fault ModeSelect10 condition = false
-is_field_fault ModeSense10 condition = false
-is_field_fault ReportSupportedOperationCodes condition = false
 is_field_fault ReportSupportedTaskManagementFunctions condition = false
 is_field_fault ModeSense condition = is_of_mode_sense condition
+is_field_fault ModeSense10 condition = is_of_mode_sense condition
 is_field_fault ModeSelect condition = is_of_mode_select condition
+is_field_fault ModeSelect10 condition = is_of_mode_select condition
+is_field_fault LogSelect condition = is_of_mode_select condition
 is_field_fault class condition = is_of_cdb condition
 
 -- fields that are refused: CHECK CONDITION with the sense data of such a condition
@@ -152,14 +151,14 @@ pub record RefusesFields (e : Record) (class : Class) : Type 0 where
 
 -- which of stages 5 and 6 a command other than PERSISTENT RESERVE OUT comes to, and what it is answered there, is its own or the
 -- device's; but its fields are refused as its class allows, and it is GOOD exactly without sense data
-pub record SaysItsOwn (e : Record) (at : Cell) : Type 0 where
+pub record SaysItsOwn (profile : Profile) (e : Record) (at : Cell) : Type 0 where
   pub stage : (e.stage ≡ Fields) ⊎ (e.stage ≡ Device)
   pub cell : e.cell ≡ Some at
   pub rule : e.rule ≡ None
   pub whole : IsWhole e.status e.sense
   pub fields : e.stage ≡ Fields → RefusesFields e at.class
   pub unit : is_of_every_unit at.class ≡ true → e.stage ≡ Device → e.status ≡ Good
-  pub told : (kind : Kind) → e.told ≡ Some kind → ToldOthers e at.class kind
+  pub told : (kind : Kind) → e.told ≡ Some kind → ToldOthers profile e at.class kind
 
 -- stages 5 and 6
 abbrev pub IsCarriedOut : UnitStateView → Nexus → Option OutParams → Class → Record → Type 0
@@ -167,7 +166,7 @@ IsCarriedOut k n (Some params) class e = elim (refusal k.reservations n params) 
   | Some fault ↦ Says e (let_in (cell k.reservations n class) Fields) (check (condition_of_refusal fault))
   | None ↦ Says e (let_in (cell k.reservations n class) Device) (good [])
 ]
-IsCarriedOut k n None class e = SaysItsOwn e (cell k.reservations n class)
+IsCarriedOut k n None class e = SaysItsOwn k.profile e (cell k.reservations n class)
 
 -- stage 4
 abbrev pub IsLetThrough : UnitStateView → Nexus → Option OutParams → Class → Record → Type 0

@@ -12,7 +12,7 @@ use Rattle.scsi_sense.specs.declared.status.Status.TheVariants as status
 use Rattle.tape_medium.specs.declared.volume.Volume.{Volume}
 use Rattle.tape_medium.specs.declared.volume.VolumeTag.{VolumeTag}
 use Rattle.device_server.specs.Ends.{IsSameDevice}
-use Rattle.device_server.specs.View.{DeviceView, commands_of, drives_of, held_in, taken, put, marked}
+use Rattle.device_server.specs.View.{DeviceView, commands_of, drives_of, held_in, taken, put, marked, journeyed}
 use Rattle.judgement.specs.Judge.{judged}
 use Rattle.judgement.specs.JudgedUnit.{JudgedUnit}
 use Rattle.judgement.specs.declared.decision.Decision.{Decision}
@@ -99,9 +99,14 @@ carried_by_one changer d r (Some l) None = unloaded changer d r
 carried_by_one changer d r None (Some m) = loaded changer d r
 carried_by_one changer d r from to = Err InternalTargetFailure
 
+-- a volume that was carried leaves the changer with the addresses of its way, by which it knows where the volume came from
+abbrev pub on_its_way : {A : Type 0} → Route → Result (DeviceView × A) Condition → Result (DeviceView × A) Condition
+on_its_way r (Ok it) = Ok (journeyed it.0 r.source r.destination, it.1)
+on_its_way r (Err condition) = Err condition
+
 abbrev pub carried_one : (changer : DeviceView) → UnitView → Option Route → Result (DeviceView × UnitView) Condition
 carried_one changer d None = Err InternalTargetFailure
-carried_one changer d (Some r) = carried_by_one changer d r r.from r.to
+carried_one changer d (Some r) = on_its_way r (carried_by_one changer d r r.from r.to)
 
 -- two drives, by their numbers
 pub record TwoDrives : Type 0 where
@@ -117,9 +122,13 @@ abbrev pub downward : Result (DeviceView × UnitView × UnitView) Condition → 
 downward (Ok it) = Ok (it.0, record { low = it.2; high = it.1 })
 downward (Err condition) = Err condition
 
+abbrev pub carried_by_two : (changer : DeviceView) → TwoDrives → Route → Result (DeviceView × TwoDrives) Condition
+carried_by_two changer ds r =
+    if is_upward r.from r.to then upward (passed changer ds.low ds.high r) else downward (passed changer ds.high ds.low r)
+
 abbrev pub carried_two : (changer : DeviceView) → TwoDrives → Option Route → Result (DeviceView × TwoDrives) Condition
 carried_two changer ds None = Err InternalTargetFailure
-carried_two changer ds (Some r) = if is_upward r.from r.to then upward (passed changer ds.low ds.high r) else downward (passed changer ds.high ds.low r)
+carried_two changer ds (Some r) = on_its_way r (carried_by_two changer ds r)
 
 -- THE MOVE
 
@@ -185,11 +194,13 @@ TwoAreBusyOnlyFor c low high n cdb bytes reply = reply.status ≡ status.Busy
 abbrev pub numbers_of : (before after : UnitView) → List (ℕ × ℕ)
 numbers_of before after = if last_number after == last_number before then [] else (before.state.lun, last_number after) ∷ []
 
--- a unit that stays the same one: its device of the same kind, profile and size, its number, its target's units, its registrations and reservation
+-- a unit that stays the same one: its device of the same kind, profile and size, its number, its target's units and their profile, its
+-- registrations and reservation
 pub record IsSameUnit (u v : UnitView) : Type 0 where
   pub device : IsSameDevice u.device v.device
   pub lun : v.state.lun ≡ u.state.lun
   pub units : v.state.units ≡ u.state.units
+  pub profile : v.state.profile ≡ u.state.profile
   pub reservations : v.state.reservations ≡ u.state.reservations
 
 -- a move leaves each unit the same one

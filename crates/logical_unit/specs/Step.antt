@@ -9,7 +9,7 @@ use Rattle.audit_log.specs.declared.act.Act.{Act}
 use Rattle.audit_log.specs.declared.act.Act.TheVariants.{Loss, Reset}
 use Rattle.audit_log.specs.declared.record.Record.{Record}
 use Rattle.audit_log.specs.declared.stage.Stage.TheVariants.{Device}
-use Rattle.device_server.specs.View.{DeviceView, commands_of, reset_of}
+use Rattle.device_server.specs.View.{DeviceView, profile_of, commands_of, reset_of}
 use Rattle.judgement.specs.declared.decision.Decision.{Decision}
 use Rattle.judgement.specs.declared.reply.Reply.{Reply}
 use Rattle.judgement.specs.Commands.{decoded_command, act_of}
@@ -24,8 +24,8 @@ use Rattle.judgement.specs.Judge.{judged, takes_memory}
 abbrev pub made : DeviceView → (lun units last : ℕ) → UnitView
 made device lun units last = record {
   device = device;
-  state = at_power_on lun units;
-  base = record { state = at_power_on lun units; last = last };
+  state = at_power_on (profile_of device) lun units;
+  base = record { state = at_power_on (profile_of device) lun units; last = last };
   records = [];
 }
 

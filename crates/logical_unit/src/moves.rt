@@ -5,7 +5,7 @@ ghost use Rattle.judgement.specs.Received.{IsFor};
 ghost use Rattle.logical_unit.specs.MoveJudgement.{DecodesTo, HasWays, StopsMove, AwaitsEnd, Finishes};
 ghost use Rattle.logical_unit.specs.Contents.{SameContents, MayNotChange};
 ghost use Rattle.logical_unit.specs.Medium.{taken_out, put_in};
-ghost use Rattle.logical_unit.specs.Move.{TwoDrives, given, unloaded, loaded, passed, carried_one, carried_two, MovesOne, MovesTwo, OneIsBusyOnlyFor, TwoAreBusyOnlyFor, numbers_of};
+ghost use Rattle.logical_unit.specs.Move.{TwoDrives, given, unloaded, loaded, passed, carried_by_one, carried_one, carried_by_two, carried_two, MovesOne, MovesTwo, OneIsBusyOnlyFor, TwoAreBusyOnlyFor, numbers_of};
 ghost use Rattle.logical_unit.specs.Route.{named, route_of};
 ghost use Rattle.logical_unit.specs.Step.{HasNumber, LacksRecord};
 ghost use Rattle.logical_unit.specs.UnitView.{last_number, with_device};
@@ -145,7 +145,31 @@ fn pass<D: DeviceServer>(
     Ok((given, taken))
 }
 
-/// Carries the volume of a move that names one drive, and answers the number of the drive's record.
+/// Carries the volume of a move that names one drive, by which of its ends the drive is, and answers the number of the
+/// drive's record.
+fn carry_by_one<D: DeviceServer>(
+    changer: &mut LogicalUnit<D>,
+    drive: &mut LogicalUnit<D>,
+    route: Route,
+) -> Result<u64, MoveStop>
+    requires ways { HasWays changer.old.unit.device route }
+    ensures ok { OnOk result (carried_by_one changer.old.unit.device drive.old.unit route route.from route.to ≡ Ok (changer.new.unit.device, drive.new.unit)) }
+    ensures number { IfOk result (λ number. HasNumber drive.old.unit × (number ≡ last_number drive.old.unit + 1)) }
+    ensures last { OnOk result (last_number drive.new.unit ≡ last_number drive.old.unit + 1) }
+    ensures changer { changer.new ≡ with_device changer.old changer.new.unit.device }
+    ensures err { IfErr result (StopsMove (carried_by_one changer.old.unit.device drive.old.unit route route.from route.to) (LacksRecord drive.old)) }
+    ensures same { OnErr result ((changer.new ≡ changer.old) × (drive.new.unit ≡ drive.old.unit)) }
+{
+    match (route.from, route.to) {
+        (Some(_), None) => unload(changer, drive, route),
+        (None, Some(_)) => load(changer, drive, route),
+        (None, None) | (Some(_), Some(_)) => {
+            Err(MoveStop::Refused(Condition::InternalTargetFailure))
+        }
+    }
+}
+
+/// The same, which the changer notes.
 fn carry_one<D: DeviceServer>(
     changer: &mut LogicalUnit<D>,
     drive: &mut LogicalUnit<D>,
@@ -159,16 +183,38 @@ fn carry_one<D: DeviceServer>(
     ensures err { IfErr result (StopsMove (carried_one changer.old.unit.device drive.old.unit (Some route)) (LacksRecord drive.old)) }
     ensures same { OnErr result ((changer.new ≡ changer.old) × (drive.new.unit ≡ drive.old.unit)) }
 {
-    match (route.from, route.to) {
-        (Some(_), None) => unload(changer, drive, route),
-        (None, Some(_)) => load(changer, drive, route),
-        (None, None) | (Some(_), Some(_)) => {
-            Err(MoveStop::Refused(Condition::InternalTargetFailure))
-        }
+    let number = carry_by_one(changer, drive, route)?;
+    changer.note_journey(route);
+    Ok(number)
+}
+
+/// Carries the volume of a move that names two drives, up or down, and answers the numbers of their records in their
+/// order.
+fn carry_by_two<D: DeviceServer>(
+    changer: &mut LogicalUnit<D>,
+    low: &mut LogicalUnit<D>,
+    high: &mut LogicalUnit<D>,
+    route: Route,
+) -> Result<(u64, u64), MoveStop>
+    ensures ok { OnOk result (carried_by_two changer.old.unit.device (record { low = low.old.unit; high = high.old.unit }) route ≡ Ok (changer.new.unit.device, record { low = low.new.unit; high = high.new.unit })) }
+    ensures low { IfOk result (λ it. HasNumber low.old.unit × (it.0 ≡ last_number low.old.unit + 1)) }
+    ensures last_low { OnOk result (last_number low.new.unit ≡ last_number low.old.unit + 1) }
+    ensures high { IfOk result (λ it. HasNumber high.old.unit × (it.1 ≡ last_number high.old.unit + 1)) }
+    ensures last_high { OnOk result (last_number high.new.unit ≡ last_number high.old.unit + 1) }
+    ensures changer { changer.new ≡ with_device changer.old changer.new.unit.device }
+    ensures err { IfErr result (StopsMove (carried_by_two changer.old.unit.device (record { low = low.old.unit; high = high.old.unit }) route) (LacksRecord low.old ⊎ LacksRecord high.old)) }
+    ensures same { OnErr result ((changer.new ≡ changer.old) × (low.new.unit ≡ low.old.unit) × (high.new.unit ≡ high.old.unit)) }
+{
+    if route.is_upward() {
+        return pass(changer, low, high, route);
+    }
+    match pass(changer, high, low, route) {
+        Ok((high, low)) => Ok((low, high)),
+        Err(stop) => Err(stop),
     }
 }
 
-/// The same for a move that names two, whose numbers are answered in their order.
+/// The same, which the changer notes.
 fn carry_two<D: DeviceServer>(
     changer: &mut LogicalUnit<D>,
     low: &mut LogicalUnit<D>,
@@ -184,13 +230,9 @@ fn carry_two<D: DeviceServer>(
     ensures err { IfErr result (StopsMove (carried_two changer.old.unit.device (record { low = low.old.unit; high = high.old.unit }) (Some route)) (LacksRecord low.old ⊎ LacksRecord high.old)) }
     ensures same { OnErr result ((changer.new ≡ changer.old) × (low.new.unit ≡ low.old.unit) × (high.new.unit ≡ high.old.unit)) }
 {
-    if route.is_upward() {
-        return pass(changer, low, high, route);
-    }
-    match pass(changer, high, low, route) {
-        Ok((high, low)) => Ok((low, high)),
-        Err(stop) => Err(stop),
-    }
+    let numbers = carry_by_two(changer, low, high, route)?;
+    changer.note_journey(route);
+    Ok(numbers)
 }
 
 /// Ends a move that judgement left to the drives, by what became of the volume.

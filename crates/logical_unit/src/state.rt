@@ -6,6 +6,7 @@ use crate::route::Route;
 use audit_log::{Act, Record, Stage, Trail};
 use device_server::DeviceServer;
 use judgement::{Command, Decision, ReceivedCommand, Reply, UnitState, act_of, judge};
+use scsi_cdb::Profile;
 use scsi_nexus::Nexus;
 use scsi_sense::{Sense, Status};
 use std::alloc::{AllocError, Global};
@@ -47,14 +48,20 @@ impl RecordedUnit {
     ghost use Rattle.logical_unit.specs.Audit.{span_lines};
     ghost use Rattle.logical_unit.specs.Legal.{IsTrail};
 
-    /// At power on, for a unit of this number among so many. The first record will have the number
+    /// At power on, for a unit of this number among so many, all of one profile. The first record will have the number
     /// after `last`.
-    pub(crate) fn new(alloc: Global, lun: u8, units: u8, last: u64) -> RecordedUnit
-        ensures { result ≡ record { state = at_power_on lun units; base = record { state = at_power_on lun units; last = last }; records = []; room = 0 } }
+    pub(crate) fn new(
+        alloc: Global,
+        profile: Profile,
+        lun: u8,
+        units: u8,
+        last: u64,
+    ) -> RecordedUnit
+        ensures { result ≡ record { state = at_power_on profile lun units; base = record { state = at_power_on profile lun units; last = last }; records = []; room = 0 } }
     {
         RecordedUnit {
-            state: UnitState::new(lun, units),
-            base: UnitState::new(lun, units),
+            state: UnitState::new(profile, lun, units),
+            base: UnitState::new(profile, lun, units),
             trail: Trail::new(alloc, last),
         }
     }
@@ -134,7 +141,7 @@ impl RecordedUnit {
 
 impl RecordedUnit {
     ghost use Rattle.std.specs.Prelude.{◌≡◌, ◌<◌, ◌+◌, ◌^◌, ℕ, true, false, [], ◌∷◌, ◌++◌, Some, None, IfOk, OnErr, length, vec_capacity};
-    ghost use Rattle.device_server.specs.View.{DeviceView, kind_of, commands_of};
+    ghost use Rattle.device_server.specs.View.{DeviceView, kind_of, profile_of, commands_of};
     ghost use Rattle.judgement.specs.Commands.{act_of_decoded};
     ghost use Rattle.judgement.specs.Received.{IsFor, command_in};
     ghost use Rattle.logical_unit.specs.ActKinds.{act_kind_of};
@@ -160,6 +167,7 @@ impl RecordedUnit {
         received: &ReceivedCommand<'_>,
     ) -> Result<(Reply, ActKind), AllocError>
         requires kind { IsFor (D.shown device.old.value) received.now }
+        requires profile { self.old.state.profile ≡ profile_of (D.shown device.old.value) }
         requires slot { has_room self.old.state received.now.nexus ≡ true }
         requires room { 0 < self.old.room }
         requires number { last_in self.old + 1 < 2 ^ 64 }
@@ -196,6 +204,7 @@ impl RecordedUnit {
     ) -> Result<MoveJudgement, AllocError>
         requires changer { kind_of (D.shown device.old.value) ≡ Changer }
         requires kind { IsFor (D.shown device.old.value) received.now }
+        requires profile { self.old.state.profile ≡ profile_of (D.shown device.old.value) }
         requires route { DecodesTo (commands_of (D.shown device.old.value)) (drives_of (D.shown device.old.value)) received.now.cdb route }
         requires slot { has_room self.old.state received.now.nexus ≡ true }
         requires room { 0 < self.old.room }

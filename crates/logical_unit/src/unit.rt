@@ -22,7 +22,7 @@ pub struct Busy;
 /// A logical unit: the device handed in, the registrations, the reservation and the pending unit
 /// attentions, and a record of each event. The records are a legal trail: each is what judgement
 /// gives after those before it, and together they give the registrations, the reservation and the
-/// attentions that stand now.
+/// attentions that stand now. What is kept is of the profile of the device.
 #[derive(Drop)]
 pub struct LogicalUnit<D: DeviceServer> {
     device: Box<D>,
@@ -31,17 +31,21 @@ pub struct LogicalUnit<D: DeviceServer> {
 }
 
 impl<D: DeviceServer> Model for LogicalUnit<D> {
+    ghost use Rattle.std.specs.Prelude.{◌≡◌};
+    ghost use Rattle.device_server.specs.View.{profile_of};
     ghost use Rattle.logical_unit.specs.UnitView.{UnitWithRoom, unit_with_room};
 
     ghost Value = { UnitWithRoom };
 
     ghost view = { λ u. unit_with_room (D.shown u.device.value) u.state.value };
+
+    ghost invariant = { λ u. u.state.value.state.profile ≡ profile_of (D.shown u.device.value) };
 }
 
 impl<D: DeviceServer> LogicalUnit<D> {
     ghost use Rattle.std.specs.Prelude.{◌≡◌, map, string_bytes, IfOk, IfErr};
     ghost use Rattle.logical_unit.specs.Audit.{audit_of};
-    ghost use Rattle.device_server.specs.View.{kind_of, commands_of, drives_of, held_in};
+    ghost use Rattle.device_server.specs.View.{kind_of, profile_of, commands_of, drives_of, held_in};
     ghost use Rattle.judgement.specs.UnitState.{is_prevented, has_room, HaveSlots};
     ghost use Rattle.logical_unit.specs.Step.{made};
     ghost use Rattle.logical_unit.specs.Legal.{IsTrail};
@@ -72,7 +76,8 @@ impl<D: DeviceServer> LogicalUnit<D> {
         ensures ok { IfOk result (λ unit. unit ≡ record { unit = made (D.shown device.value) lun units last; room = 0 }) }
         ensures err { IfErr result (λ back. back.1.value ≡ device.value) }
     {
-        match Box::new(alloc, RecordedUnit::new(alloc, lun, units, last)) {
+        let profile = device.profile();
+        match Box::new(alloc, RecordedUnit::new(alloc, profile, lun, units, last)) {
             Ok(state) => Ok(LogicalUnit { device, state }),
             Err(refused) => Err((refused.into(), device)),
         }
@@ -148,10 +153,13 @@ impl<D: DeviceServer> LogicalUnit<D> {
         self.state.has_room(nexus)
     }
 
-    /// The records since the base, oldest first: a legal trail, which gives what is kept now.
+    /// The records since the base, oldest first: a legal trail, which gives what is kept now. What was kept before them,
+    /// and what is kept now, is of the profile of the device.
     pub fn records(&self) -> &[Record]
         ensures records { result.now ≡ self.now.unit.records }
         ensures trail { IsTrail self.now.unit.base self.now.unit.records self.now.unit.state }
+        ensures base { self.now.unit.base.state.profile ≡ profile_of self.now.unit.device }
+        ensures profile { self.now.unit.state.profile ≡ profile_of self.now.unit.device }
     {
         self.state.records()
     }
@@ -363,7 +371,7 @@ impl<D: DeviceServer> LogicalUnit<D> {
 impl<D: DeviceServer> LogicalUnit<D> {
     ghost use Rattle.std.specs.Prelude.{◌≡◌, ◌<◌, ◌+◌, ◌⊎◌, false, Ok, IsOk, is_ok, IsTrue, OnOk, IfErr, Err};
     ghost use Rattle.scsi_cdb.specs.declared.kind.Kind.TheVariants.{Changer};
-    ghost use Rattle.device_server.specs.View.{kind_of, commands_of, drives_of, taken, put};
+    ghost use Rattle.device_server.specs.View.{kind_of, commands_of, drives_of, taken, put, journeyed};
     ghost use Rattle.judgement.specs.Replies.{IsWhole};
     ghost use Rattle.judgement.specs.JudgedUnit.{JudgedUnit};
     ghost use Rattle.logical_unit.specs.MoveJudgement.{DecodesTo, BeginsAt, AwaitsEnd};
@@ -449,6 +457,13 @@ impl<D: DeviceServer> LogicalUnit<D> {
         ensures { self.new ≡ with_device self.old (noting self.old.unit.device place tag) }
     {
         let _ = self.device.mark(place, tag);
+    }
+
+    /// Notes at a changer that a volume was carried from one address to another.
+    pub(crate) fn note_journey(&mut self, route: Route)
+        ensures { self.new ≡ with_device self.old (journeyed self.old.unit.device route.source route.destination) }
+    {
+        self.device.note_journey(route.source, route.destination);
     }
 
     /// Whether the drive gives the volume that the mark at its element names; else what the changer reports.

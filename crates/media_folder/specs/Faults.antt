@@ -20,6 +20,7 @@ folder_status (folder.NoSize size) = 2
 folder_status (folder.Start fault) = 2
 folder_status (folder.NothingServed path) = 2
 folder_status folder.NoName = 2
+folder_status folder.NoNumber = 4
 
 -- the same of a folder that was looked over
 abbrev pub check_status : CheckFault → ℕ

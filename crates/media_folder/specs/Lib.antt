@@ -1,4 +1,5 @@
 pub mod Names
+pub mod Profiles
 pub mod Sizes
 pub mod Faults
 pub mod Stores

@@ -33,6 +33,8 @@ pub enum FolderFault {
     NothingServed(String),
     /// A tag has no name that a file can have.
     NoName,
+    /// The system gives no random number for a library.
+    NoNumber,
 }
 
 impl FolderFault {
@@ -79,7 +81,8 @@ impl FolderFault {
             | FolderFault::CannotRead(_)
             | FolderFault::CannotWrite(_)
             | FolderFault::CannotLock(_)
-            | FolderFault::Moved(_) => 4,
+            | FolderFault::Moved(_)
+            | FolderFault::NoNumber => 4,
             FolderFault::InUse(_)
             | FolderFault::NoLibrary(_)
             | FolderFault::BadInventory(_, _)
@@ -143,6 +146,10 @@ impl fmt::Display for FolderFault {
             FolderFault::NoSize(size) => write_size(f, size),
             FolderFault::Start(fault) => write_start_fault(f, fault),
             FolderFault::NoName => write!(f, "vtl: a volume has a tag that no file can have"),
+            FolderFault::NoNumber => write!(
+                f,
+                "vtl: device fault\nvtl: the system gives no random number for the library"
+            ),
         }
     }
 }
@@ -212,6 +219,8 @@ fn key_name(key: InventoryKey) -> &'static str {
         InventoryKey::Drives => "drives",
         InventoryKey::Slots => "slots",
         InventoryKey::ImportExports => "portals",
+        InventoryKey::Profile => "profile",
+        InventoryKey::LibraryNumber => "library",
         InventoryKey::Volume => "volume",
         InventoryKey::Missing => "missing",
     }
@@ -225,9 +234,15 @@ fn volume_words(fault: VolumeFault) -> &'static str {
         VolumeFault::NoElement => {
             "it needs exactly one of data_transfer, storage and import_export, with a number"
         }
+        VolumeFault::NoSource => {
+            "its source needs exactly one of data_transfer, storage and import_export, with a number"
+        }
         VolumeFault::Refused(AddFault::NoElement) => "no such element",
         VolumeFault::Refused(AddFault::ElementTwice) => "another volume is in its element",
         VolumeFault::Refused(AddFault::TagTwice) => "another volume has its tag",
+        VolumeFault::Refused(AddFault::BadSource) => {
+            "only a volume in a drive has a source, which is a storage or import/export element of the library"
+        }
         VolumeFault::Refused(AddFault::NoMemory) => "want of memory",
     }
 }

@@ -12,19 +12,23 @@ use crate::inventory_file::{is_inventory_open, kept_inventory};
 use crate::library_folder::{LibraryFolder, lock_folder};
 use crate::names::volume_path;
 use crate::notice::{Notice, tell};
+use crate::profile::decide_profile;
 use crate::size::{decide_size, least_volumes};
+use crate::wanted::WantedLibrary;
 use library_inventory::{Inventory, LibrarySize, PlacedVolume, Start, place};
-use program_options::{GivenLibrary, WithoutLibrary};
+use program_options::LibraryProfile;
 use std::alloc::Global;
 use std::fs::{File, Files};
 use std::io::Write;
+use std::random::RandomSource;
 use tape_medium::{MemoryLimit, VolumeTag};
 
-/// A folder that is opened: what its library is made of, its volumes, and those that are missing, with the elements in which they were. No
+/// A folder that is opened: the profile of its library and what it is made of, its volumes, and those that are missing, with the elements in which they were. No
 /// other program has it as long as `folder` exists.
 #[derive(Drop)]
 pub struct OpenedFolder<'a, R: Files<File = File>> {
     pub folder: LibraryFolder,
+    pub profile: LibraryProfile,
     pub size: LibrarySize,
     pub volumes: Vec<KeptVolume<'a, R>>,
     pub missing: Vec<PlacedVolume>,
@@ -33,6 +37,7 @@ pub struct OpenedFolder<'a, R: Files<File = File>> {
 /// What was read of a folder, in which nothing was changed yet.
 #[derive(Drop)]
 struct ReadLibrary<'a, R: Files<File = File>> {
+    profile: LibraryProfile,
     size: LibrarySize,
     found: FoundVolumes<'a, R>,
     start: Start,
@@ -41,12 +46,11 @@ struct ReadLibrary<'a, R: Files<File = File>> {
 /// Opens the folder of a library. First everything in it is read: a volume whose file can't be served is left out, and one whose file isn't
 /// there is missing. Then blank volumes are made, until there are as many as were asked for. Each volume takes `volume_size` bytes of
 /// blocks, or as many as it has where these are more, and all take no more memory together than the limit says. What is lost, left or
-/// missing is reported on `errors`. The inventory is read and not written.
-pub fn open_folder<'a, R: AllocGlobal + Files<File = File>, E: Write>(
+/// missing is reported on `errors`. The inventory is read and not written. What is wanted of the library is held against it first.
+pub fn open_folder<'a, R: AllocGlobal + Files<File = File> + RandomSource, E: Write>(
     rt: &'a R,
     path: String,
-    without: WithoutLibrary,
-    given: GivenLibrary,
+    wanted: WantedLibrary,
     volume_size: u64,
     memory: &MemoryLimit,
     errors: &mut E,
@@ -56,19 +60,27 @@ pub fn open_folder<'a, R: AllocGlobal + Files<File = File>, E: Write>(
     ensures size { IfOk result (λ opened. IsUsable opened.size) }
     ensures volumes { IfOk result (λ opened. AreVolumesOf (string_bytes path) opened.volumes.items) }
 {
-    let folder = lock_folder(rt, path, without)?;
-    let inventory = kept_inventory(rt, folder.path(), without)?;
-    let read = read_library(rt, &folder, &inventory, &given, volume_size, memory, errors)?;
+    let folder = lock_folder(rt, path, wanted.without)?;
+    let inventory = kept_inventory(rt, folder.path(), wanted.without)?;
+    let read = read_library(
+        rt,
+        &folder,
+        &inventory,
+        &wanted,
+        volume_size,
+        memory,
+        errors,
+    )?;
     let ReadLibrary {
+        profile,
         size,
         mut found,
-        start,
+        start: Start {
+            volumes: placed,
+            made,
+            missing,
+        },
     } = read;
-    let Start {
-        volumes: placed,
-        made,
-        missing,
-    } = start;
     make_volumes(rt, &folder, &made)?;
     find_volumes(
         rt,
@@ -82,18 +94,19 @@ pub fn open_folder<'a, R: AllocGlobal + Files<File = File>, E: Write>(
     let volumes = keep_volumes(rt, &folder, found, &placed, errors)?;
     Ok(OpenedFolder {
         folder,
+        profile,
         size,
         volumes,
         missing,
     })
 }
 
-/// Reads what is in a folder next to its inventory, and decides what its library is made of and where its volumes are.
-fn read_library<'a, R: AllocGlobal + Files<File = File>, E: Write>(
+/// Reads what is in a folder next to its inventory, and decides what its library is made of, which profile it has and where its volumes are.
+fn read_library<'a, R: AllocGlobal + Files<File = File> + RandomSource, E: Write>(
     rt: &'a R,
     folder: &LibraryFolder,
     inventory: &Option<Inventory>,
-    given: &GivenLibrary,
+    wanted: &WantedLibrary,
     volume_size: u64,
     memory: &MemoryLimit,
     errors: &mut E,
@@ -103,11 +116,12 @@ fn read_library<'a, R: AllocGlobal + Files<File = File>, E: Write>(
     ensures size { IfOk result (λ read. IsUsable read.size) }
     ensures volumes { IfOk result (λ read. AreRead folder.now read.found.volumes.items) }
 {
-    let kept = match inventory {
-        Some(inventory) => Some(inventory.size()),
-        None => None,
+    let (kept, before) = match inventory {
+        Some(inventory) => (Some(inventory.size()), Some(inventory.profile())),
+        None => (None, None),
     };
-    let size = decide_size(given, kept)?;
+    let size = decide_size(&wanted.given, kept)?;
+    let profile = decide_profile(rt, &wanted.profile, before)?;
     let found = read_volumes(rt, folder.path(), volume_size, memory, errors)?;
     if found.is_nothing_served() {
         return Err(FolderFault::NothingServed(String::from_str(rt.alloc(), folder.path())?));
@@ -115,16 +129,22 @@ fn read_library<'a, R: AllocGlobal + Files<File = File>, E: Write>(
     let start = start_of(
         rt.alloc(),
         size,
-        least_volumes(given, kept),
+        least_volumes(&wanted.given, kept),
         inventory,
         &found,
     )?;
     tell_missing(rt, folder.path(), &start.missing, &found.left_out, errors)?;
+    tell_profile(folder.path(), before, profile, errors);
     if found.is_open || folder.is_open_to_others() || is_inventory_open(rt, folder.path())? {
         let folder = folder.path();
         tell(errors, &Notice::OpenToOthers { folder });
     }
-    Ok(ReadLibrary { size, found, start })
+    Ok(ReadLibrary {
+        profile,
+        size,
+        found,
+        start,
+    })
 }
 
 /// Where the volumes of a library are, by its inventory and the files that are there.
@@ -151,6 +171,18 @@ fn start_of<'a, R: Files<File = File>>(
     ) {
         Ok(start) => Ok(start),
         Err(fault) => Err(FolderFault::of_start(fault)),
+    }
+}
+
+/// Reports that a library which was kept with the default profile is of the hosts' profile from now on.
+fn tell_profile<E: Write>(
+    folder: &str,
+    before: Option<LibraryProfile>,
+    profile: LibraryProfile,
+    errors: &mut E,
+) {
+    if let (Some(LibraryProfile::Spec), LibraryProfile::Hosts(number)) = (before, profile) {
+        tell(errors, &Notice::ForHosts { folder, number });
     }
 }
 

@@ -29,6 +29,8 @@ use tape_medium::{MemoryLimit, Volume, VolumeTag};
 #[derive(Drop)]
 pub struct KeptVolume<'a, R: Files<File = File>> {
     pub element: Element,
+    /// Of a volume in a drive the element where it was last outside drives, if that is known.
+    pub source: Option<Element>,
     pub volume: Volume,
     pub image: SavedImage<FileStore<'a, R>>,
 }
@@ -205,8 +207,8 @@ pub(crate) fn keep_volumes<'a, R: AllocGlobal + Files<File = File>, E: Write>(
     let mut kept = Vec::with_capacity(rt.alloc(), volumes.len())?;
     'volumes: for read in volumes {
         // Each volume that was read has an element.
-        if let Some(element) = element_of(placed, read.volume.tag) {
-            let volume = keep_volume(rt, folder, read, element, boot, errors)?;
+        if let Some(place) = place_of(placed, read.volume.tag) {
+            let volume = keep_volume(rt, folder, read, place, boot, errors)?;
             kept.push(volume).map_err(AllocError::from)?;
         }
     }
@@ -218,11 +220,12 @@ fn keep_volume<'a, R: AllocGlobal + Files<File = File>, E: Write>(
     rt: &R,
     folder: &LibraryFolder,
     read: ReadVolume<'a, R>,
-    element: Element,
+    place: PlacedVolume,
     boot: BootId,
     errors: &mut E,
 ) -> Result<KeptVolume<'a, R>, FolderFault>
-    ensures element { IfOk result (λ kept. kept.element ≡ element) }
+    ensures element { IfOk result (λ kept. kept.element ≡ place.element) }
+    ensures source { IfOk result (λ kept. kept.source ≡ place.source) }
     ensures volume { IfOk result (λ kept. kept.volume ≡ read.entry.volume) }
     ensures store { IfOk result (λ kept. kept.image.store ≡ read.entry.store) }
 {
@@ -234,16 +237,14 @@ fn keep_volume<'a, R: AllocGlobal + Files<File = File>, E: Write>(
     } = read;
     let synced = begin_writing(rt, folder, &mut store, trust, boot, errors)?;
     Ok(KeptVolume {
-        element,
+        element: place.element,
+        source: place.source,
         volume,
         image: open_image(store, ends, synced),
     })
 }
 
-/// The element in which the volume with a tag is.
-fn element_of(placed: &[PlacedVolume], tag: VolumeTag) -> Option<Element> {
-    placed
-        .iter()
-        .find(|volume| volume.tag == tag)
-        .map(|volume| volume.element)
+/// Where the volume with a tag is.
+fn place_of(placed: &[PlacedVolume], tag: VolumeTag) -> Option<PlacedVolume> {
+    placed.iter().find(|volume| volume.tag == tag).copied()
 }

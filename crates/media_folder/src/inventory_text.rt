@@ -1,9 +1,12 @@
 //! The text of an inventory, `library.toml`, in TOML 1.0.
 
 use crate::text_fault::{InventoryKey, ReadFault, VolumeFault, WriteFault};
+use inquiry_data::LibraryNumber;
 use library_inventory::{
     AddFault, Element, Inventory, LibrarySize, PlacedVolume, name_of_tag, tag_of_name,
 };
+use program_options::{LibraryProfile, profile_of};
+use scsi_cdb::Profile;
 use std::alloc::Global;
 use std::fmt::Write;
 use toml::{Table, Value};
@@ -11,12 +14,20 @@ use toml::{Table, Value};
 /// The version of the text that is written, and the one that is read.
 const VERSION: i64 = 1;
 
+/// The value of a library's profile, where it is written.
+const HOSTS: &str = "hosts";
+
+/// The key of a volume's source.
+const SOURCE: &str = "source";
+
 fn key_text(key: InventoryKey) -> &'static str {
     match key {
         InventoryKey::Version => "version",
         InventoryKey::Drives => "drives",
         InventoryKey::Slots => "slots",
         InventoryKey::ImportExports => "portals",
+        InventoryKey::Profile => "profile",
+        InventoryKey::LibraryNumber => "library",
         InventoryKey::Volume => "volume",
         InventoryKey::Missing => "missing",
     }
@@ -49,7 +60,30 @@ fn size_of(table: &Table) -> Result<LibrarySize, ReadFault> {
     })
 }
 
-/// The number of an element of a type, if the volume names one.
+/// The profile of the library, which is the default one where the text says nothing of it; one of the hosts' profile has a number.
+fn library_profile_of(table: &Table) -> Result<LibraryProfile, ReadFault> {
+    let profile = match table.get(key_text(InventoryKey::Profile)) {
+        Some(value) => named_profile(value).ok_or(ReadFault::BadKey(InventoryKey::Profile))?,
+        None => Profile::Spec,
+    };
+    match profile {
+        Profile::Spec => Ok(LibraryProfile::Spec),
+        Profile::Hosts => match library_number_at(table) {
+            Some(number) => Ok(LibraryProfile::Hosts(number)),
+            None => Err(ReadFault::BadKey(InventoryKey::LibraryNumber)),
+        },
+    }
+}
+
+fn named_profile(value: &Value) -> Option<Profile> {
+    profile_of(value.as_str()?).ok()
+}
+
+fn library_number_at(table: &Table) -> Option<LibraryNumber> {
+    LibraryNumber::parse(table.get(key_text(InventoryKey::LibraryNumber))?.as_str()?)
+}
+
+/// The number of an element of a type, if a table names one.
 fn number_at(volume: &Table, key: &str) -> Option<u16> {
     let number = volume.get(key)?.as_integer()?;
     match u16::try_from(number) {
@@ -58,7 +92,7 @@ fn number_at(volume: &Table, key: &str) -> Option<u16> {
     }
 }
 
-/// The one element that a volume names.
+/// The one element that a table names.
 fn element_of(volume: &Table) -> Option<Element> {
     let drive = number_at(volume, "data_transfer");
     let slot = number_at(volume, "storage");
@@ -75,7 +109,29 @@ fn tag_text(volume: &Table) -> Option<&str> {
     volume.get("tag")?.as_str()
 }
 
-fn placed_of(value: &Value) -> Result<PlacedVolume, VolumeFault> {
+/// The source of a volume, if it has one. In a library of the default profile that is a key that isn't known.
+fn source_of(profile: LibraryProfile, volume: &Table) -> Result<Option<Element>, VolumeFault> {
+    match profile {
+        LibraryProfile::Spec => Ok(None),
+        LibraryProfile::Hosts(_) => match volume.get(SOURCE) {
+            Some(source) => source_in(source),
+            None => Ok(None),
+        },
+    }
+}
+
+/// The one element that a source names.
+fn source_in(source: &Value) -> Result<Option<Element>, VolumeFault> {
+    let Some(table) = source.as_table() else {
+        return Err(VolumeFault::NoSource);
+    };
+    match element_of(table) {
+        Some(element) => Ok(Some(element)),
+        None => Err(VolumeFault::NoSource),
+    }
+}
+
+fn placed_of(profile: LibraryProfile, value: &Value) -> Result<PlacedVolume, VolumeFault> {
     let Some(volume) = value.as_table() else {
         return Err(VolumeFault::NoTable);
     };
@@ -85,15 +141,19 @@ fn placed_of(value: &Value) -> Result<PlacedVolume, VolumeFault> {
     let Some(tag) = tag_of_name(name) else {
         return Err(VolumeFault::NoTag);
     };
-    match element_of(volume) {
-        Some(element) => Ok(PlacedVolume { tag, element }),
-        None => Err(VolumeFault::NoElement),
-    }
+    let Some(element) = element_of(volume) else {
+        return Err(VolumeFault::NoElement);
+    };
+    Ok(PlacedVolume {
+        tag,
+        element,
+        source: source_of(profile, volume)?,
+    })
 }
 
 fn add_volumes(inventory: &mut Inventory, volumes: &[Value]) -> Result<(), ReadFault> {
     'volumes: for (nth, value) in volumes.iter().enumerate() {
-        let placed = match placed_of(value) {
+        let placed = match placed_of(inventory.profile(), value) {
             Ok(placed) => placed,
             Err(fault) => return Err(ReadFault::Volume { nth, fault }),
         };
@@ -111,7 +171,7 @@ fn add_volumes(inventory: &mut Inventory, volumes: &[Value]) -> Result<(), ReadF
 
 fn add_missing(inventory: &mut Inventory, volumes: &[Value]) -> Result<(), ReadFault> {
     'volumes: for (nth, value) in volumes.iter().enumerate() {
-        let placed = match placed_of(value) {
+        let placed = match placed_of(inventory.profile(), value) {
             Ok(placed) => placed,
             Err(fault) => return Err(ReadFault::Missing { nth, fault }),
         };
@@ -148,7 +208,8 @@ pub fn read_inventory(alloc: Global, text: &str) -> Result<Inventory, ReadFault>
     if version != VERSION {
         return Err(ReadFault::UnknownVersion(version));
     }
-    let mut inventory = Inventory::new(alloc, size_of(&table)?);
+    let size = size_of(&table)?;
+    let mut inventory = Inventory::new(alloc, library_profile_of(&table)?, size);
     add_volumes(&mut inventory, volumes_at(&table, InventoryKey::Volume)?)?;
     add_missing(&mut inventory, volumes_at(&table, InventoryKey::Missing)?)?;
     Ok(inventory)
@@ -164,11 +225,31 @@ fn write_volume(
         return Err(WriteFault::NoName);
     };
     let key = key_text(key);
-    write!(text, "\n[[{key}]]\ntag = \"{name}\"\n")?;
-    match volume.element {
-        Element::DataTransfer(number) => writeln!(text, "data_transfer = {number}")?,
-        Element::Storage(number) => writeln!(text, "storage = {number}")?,
-        Element::ImportExport(number) => writeln!(text, "import_export = {number}")?,
+    let (kind, number) = words_of(volume.element);
+    write!(text, "\n[[{key}]]\ntag = \"{name}\"\n{kind} = {number}\n")?;
+    if let Some(source) = volume.source {
+        let (kind, number) = words_of(source);
+        writeln!(text, "{SOURCE} = {{ {kind} = {number} }}")?;
+    }
+    Ok(())
+}
+
+/// The key of an element's type, and its number within that.
+fn words_of(element: Element) -> (&'static str, u16) {
+    match element {
+        Element::DataTransfer(number) => ("data_transfer", number),
+        Element::Storage(number) => ("storage", number),
+        Element::ImportExport(number) => ("import_export", number),
+    }
+}
+
+/// Adds the profile of a library to a text. The default one is written nowhere.
+fn write_profile(text: &mut String, profile: LibraryProfile) -> Result<(), WriteFault> {
+    match profile {
+        LibraryProfile::Spec => {}
+        LibraryProfile::Hosts(number) => {
+            write!(text, "profile = \"{HOSTS}\"\nlibrary = \"{number}\"\n")?;
+        }
     }
     Ok(())
 }
@@ -190,6 +271,7 @@ pub fn write_inventory(
         text,
         "drives = {drives}\nslots = {slots}\nportals = {import_exports}\n"
     )?;
+    write_profile(&mut text, inventory.profile())?;
     'volumes: for volume in inventory.volumes() {
         write_volume(&mut text, InventoryKey::Volume, volume)?;
     }

@@ -1,5 +1,5 @@
 //! The folder in which a library is kept: one program has it at a time; each volume is a file there, `TAG.tap`, and `library.toml` says
-//! what the library is made of and where its volumes are.
+//! what the library is made of, which profile it has, and where its volumes are.
 #![tactic(auto)]
 
 mod beginning;
@@ -16,6 +16,7 @@ mod library_folder;
 mod listing;
 mod names;
 mod notice;
+mod profile;
 mod reading;
 mod record;
 mod refusal;
@@ -27,6 +28,7 @@ mod store;
 mod summary;
 mod text_fault;
 mod trust;
+mod wanted;
 
 pub use check::check_folder;
 pub use check_fault::CheckFault;
@@ -39,3 +41,4 @@ pub use library_folder::LibraryFolder;
 pub use rows::{paths_name_volumes, worked_rows};
 pub use store::{FileAccess, FileStore};
 pub use text_fault::{InventoryKey, ReadFault, VolumeFault, WriteFault};
+pub use wanted::WantedLibrary;

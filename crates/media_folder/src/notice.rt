@@ -1,4 +1,5 @@
 use crate::refusal::ImageRefusal;
+use inquiry_data::LibraryNumber;
 use library_inventory::Element;
 use std::fmt;
 use std::io::Write;
@@ -60,6 +61,11 @@ pub(crate) enum Notice<'a> {
         path: &'a str,
         element: Element,
     },
+    /// A library that was kept with the default profile is of the hosts' profile from now on.
+    ForHosts {
+        folder: &'a str,
+        number: LibraryNumber,
+    },
 }
 
 /// Reports a notice. If its line can't be written, it is lost.
@@ -119,6 +125,10 @@ impl<'a> fmt::Display for Notice<'a> {
                     "vtl: {path}: it is missing: the volume was in {kind} {number}"
                 )
             }
+            Notice::ForHosts { folder, number } => write!(
+                f,
+                "vtl: {folder}: the library is kept as hosts from now on, and its number is {number}"
+            ),
         }
     }
 }

@@ -11,6 +11,9 @@ pub enum InventoryKey {
     Drives,
     Slots,
     ImportExports,
+    Profile,
+    /// The number of a library of the hosts' profile.
+    LibraryNumber,
     Volume,
     Missing,
 }
@@ -26,6 +29,9 @@ pub enum VolumeFault {
     /// It names no element, or several.
     #[error("no element")]
     NoElement,
+    /// Its source names no element, or several.
+    #[error("no source")]
+    NoSource,
     #[error("refused")]
     Refused(AddFault),
 }

@@ -2,7 +2,8 @@
 use Rattle.std.specs.Prelude.{◌≡◌, [], ◌∷◌, ◌++◌, codes, Some}
 use Rattle.permission_chart.specs.Chart.{chart, class_line}
 use Rattle.permission_chart.specs.Names.{IsNameOf, IsClassNamed}
-use Rattle.scsi_cdb.specs.declared.classes.Class.TheVariants.{PersistentReserveIn, Read, Reserve, Write}
+use Rattle.scsi_cdb.specs.declared.classes.Class.TheVariants.{LogSense, PersistentReserveIn, Read, Reserve, Write}
+use Rattle.scsi_cdb.specs.declared.profile.Profile.TheVariants.{Spec, Hosts}
 
 pub record ChartRows : Type 0 where
   pub two_classes : chart (Write ∷ Read ∷ [])
@@ -17,4 +18,5 @@ pub record NameRows : Type 0 where
   pub whole : IsNameOf (codes "WRITE(6)") Write
   pub small_letters : IsNameOf (codes "write(6)") Write
   pub part : ¬ IsNameOf (codes "WRITE") Write
-  pub found : IsClassNamed (codes "Pr-In") (Some PersistentReserveIn)
+  pub found : IsClassNamed Spec (codes "Pr-In") (Some PersistentReserveIn)
+  pub found_for_hosts : IsClassNamed Hosts (codes "Log-Sense") (Some LogSense)

@@ -2,7 +2,7 @@ ghost use Rattle.std.specs.Prelude.{◌≡◌, ℕ, Some, IfOk, string_bytes};
 ghost use Rattle.permission_chart.specs.Chart.{chart};
 ghost use Rattle.permission_chart.specs.Classes.{every_class};
 
-use crate::classes::{CLASSES, SHARED_CLASSES};
+use crate::classes::classes_of;
 use crate::row::Row;
 use scsi_cdb::{Class, Profile};
 use std::alloc::{AllocError, Global};
@@ -32,11 +32,8 @@ impl Chart<'static> {
     pub fn whole(profile: Profile) -> Chart<'static>
         ensures { result.classes.now ≡ every_class profile }
     {
-        match profile {
-            Profile::Spec => Chart {
-                classes: &CLASSES[..SHARED_CLASSES],
-            },
-            Profile::Hosts => Chart { classes: &CLASSES },
+        Chart {
+            classes: classes_of(profile),
         }
     }
 }

@@ -1,13 +1,15 @@
+ghost use Rattle.std.specs.Prelude.{◌≡◌};
+ghost use Rattle.permission_chart.specs.Classes.{every_class};
 ghost use Rattle.permission_chart.specs.Names.{IsClassNamed};
 
 use permit_tables::class_text;
-use scsi_cdb::Class;
+use scsi_cdb::{Class, Profile};
 
 /// How many classes both profiles have, the first of [`CLASSES`].
-pub(crate) const SHARED_CLASSES: usize = 31;
+const SHARED_CLASSES: usize = 31;
 
 /// Each class of command, in the order of [`Class`]. Those that only the hosts' profile has come last.
-pub(crate) const CLASSES: [Class; 38] = [
+const CLASSES: [Class; 38] = [
     Class::TestUnitReady,
     Class::RequestSense,
     Class::Inquiry,
@@ -48,11 +50,21 @@ pub(crate) const CLASSES: [Class; 38] = [
     Class::ReportSupportedTaskManagementFunctions,
 ];
 
-/// The class that has this name (`class_text`), in either case of letters, if one has.
-pub fn class_named(name: &str) -> Option<Class>
-    ensures { IsClassNamed name.now result }
+/// Each class of a profile's commands, in the order of [`Class`].
+pub(crate) fn classes_of(profile: Profile) -> &'static [Class]
+    ensures { result.now ≡ every_class profile }
 {
-    for class in CLASSES {
+    match profile {
+        Profile::Spec => &CLASSES[..SHARED_CLASSES],
+        Profile::Hosts => &CLASSES,
+    }
+}
+
+/// The class of a profile's commands that has this name (`class_text`), in either case of letters, if one has.
+pub fn class_named(profile: Profile, name: &str) -> Option<Class>
+    ensures { IsClassNamed profile name.now result }
+{
+    for &class in classes_of(profile) {
         if name.eq_ignore_ascii_case(class_text(class)) {
             return Some(class);
         }

@@ -23,7 +23,7 @@ pub fn lines_are_aligned()
     ensures { LinesAreAligned }
 {}
 
-/// Law: `class_named` has one answer for each name, and it is `Some(class)` for `class_text(class)`.
+/// Law: `class_named` has one answer for each profile and name, and it is `Some(class)` for `class_text(class)` where the profile has the class.
 #[tactic(auto, using(crate::proofs::ClassNames::one_class, crate::proofs::ClassNames::names_read_back))]
 pub fn class_name_reads_back()
     ensures one_at_most { OneClassAtMost }

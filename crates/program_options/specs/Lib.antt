@@ -6,6 +6,7 @@ pub mod HostsLetIn
 pub mod ListenFaults
 pub mod Options
 pub mod Portals
+pub mod Profiles
 pub mod Rows
 pub mod ServeTimes
 pub mod ServeUntil

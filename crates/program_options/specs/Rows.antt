@@ -1,18 +1,21 @@
 -- Worked rows: addresses of hosts, who is let in, what is said of each fault, how the program ends where its command line names no
 -- task, who serves, how long hosts are waited for, what libraries and volumes are made of, what initiators are told of portals, by which
--- digests they answer, and how many others than those let in by name.
+-- digests they answer, how many others than those let in by name, and which profile and number a library has.
 use Rattle.std.specs.Prelude.{◌≡◌, ◌++◌, [], Some, None, Ok, Err, true, false, codes, replicate}
 use Rattle.clap.specs.declared.error.kind.ErrorKind.TheVariants.{DisplayHelp, DisplayVersion, UnknownArgument, ValueValidation, MissingSubcommand}
 use Rattle.program_options.specs.ChapDigests.{digests_in}
 use Rattle.program_options.specs.declared.chap_digests.ChapDigests.TheVariants.{Sha256, Sha256AndMd5}
 use Rattle.program_options.specs.CommandLineFaults.{refusal_status, command_line_status, command_line_text}
 use Rattle.program_options.specs.declared.command_line_fault.CommandLineFault.TheVariants.{NotText, Options, NoMemory}
-use Rattle.program_options.specs.declared.option_fault.OptionFault.TheVariants.{MoreVolumes, BadMemorySize, BadVolumeSize, BadNexus, BadHost, BadName, BadSas, NoPlace, NoSlotForOthers, BadDigests}
+use Rattle.program_options.specs.declared.option_fault.OptionFault.TheVariants.{MoreVolumes, BadMemorySize, BadVolumeSize, BadNexus, BadHost, BadName, BadSas, NoPlace, NoSlotForOthers, BadDigests, BadProfile, BadLibraryNumber, NumberWithoutHosts}
 use Rattle.program_options.specs.Faults.{option_fault_text, option_status}
 use Rattle.program_options.specs.Hosts.{nexus_by, sas_in}
 use Rattle.program_options.specs.HostsLetIn.{host_in, judged}
 use Rattle.program_options.specs.Options.{options_of}
 use Rattle.program_options.specs.Portals.{listened_in, told_in}
+use Rattle.program_options.specs.Profiles.{profile_in, number_in, number_of_target, made_profile, is_fitting}
+use Rattle.program_options.specs.declared.library_profile.LibraryProfile.TheVariants as library
+use Rattle.scsi_cdb.specs.declared.profile.Profile.TheVariants.{Spec, Hosts}
 use Rattle.program_options.specs.ServeTimes.{nanos_of, timeout_nanos}
 use Rattle.program_options.specs.ServeUntil.{sessions_of, workers_of}
 use Rattle.program_options.specs.Sizes.{memory_size_in, volume_size_in}
@@ -33,6 +36,9 @@ pub record AddressesRead : Type 0 where
 pub record FaultsTold : Type 0 where
   pub more_volumes : option_fault_text MoreVolumes ≡ codes "vtl: more volumes than slots"
   pub bad_nexus : option_fault_text BadNexus ≡ codes "vtl: bad nexus"
+  pub bad_profile : option_fault_text BadProfile ≡ codes "vtl: not a profile: give spec or hosts"
+  pub bad_library_number : option_fault_text BadLibraryNumber ≡ codes "vtl: not the number of a library: give its 8 hexadecimal digits, such as 1A2B3C4D"
+  pub number_without_hosts : option_fault_text NumberWithoutHosts ≡ codes "vtl: --library-id needs --profile hosts: no other library has a number"
   pub status_of_volumes : option_status MoreVolumes ≡ 2
   pub status_of_nexus : option_status BadNexus ≡ 2
 
@@ -161,3 +167,27 @@ pub record StrangersLetIn : Type 0 where
   pub none_left : most_strangers true 64 2 ≡ Err NoSlotForOthers
   pub fewer_than_named : most_strangers true 64 4 ≡ Err NoSlotForOthers
   pub named_alone : most_strangers false 64 4 ≡ Ok 0
+
+pub record ProfilesChosen : Type 0 where
+  pub default_profile : profile_in (codes "spec") ≡ Ok Spec
+  pub hosts_profile : profile_in (codes "hosts") ≡ Ok Hosts
+  pub capital_letters : profile_in (codes "Hosts") ≡ Err BadProfile
+  pub nothing : profile_in [] ≡ Err BadProfile
+  pub number : number_in (codes "1A2B3C4D") ≡ Ok (record { number = 0x1A2B3C4D })
+  pub small_letters : number_in (codes "1a2b3c4d") ≡ Ok (record { number = 0x1A2B3C4D })
+  pub short_number : number_in (codes "1A2B3C4") ≡ Err BadLibraryNumber
+  pub long_number : number_in (codes "1A2B3C4D5") ≡ Err BadLibraryNumber
+  pub no_digit : number_in (codes "1A2B3C4G") ≡ Err BadLibraryNumber
+  pub usual : made_profile (record { profile = None; library_number = None }) (record { number = 7 }) ≡ library.Spec
+  pub hosts : made_profile (record { profile = Some Hosts; library_number = None }) (record { number = 7 }) ≡ library.Hosts (record { number = 7 })
+  pub numbered : made_profile (record { profile = Some Hosts; library_number = Some (record { number = 9 }) }) (record { number = 7 })
+      ≡ library.Hosts (record { number = 9 })
+  pub number_for_hosts : is_fitting (record { profile = Some Hosts; library_number = Some (record { number = 9 }) }) ≡ true
+  pub number_alone : is_fitting (record { profile = None; library_number = Some (record { number = 9 }) }) ≡ false
+  pub number_for_default : is_fitting (record { profile = Some Spec; library_number = Some (record { number = 9 }) }) ≡ false
+  pub no_number : is_fitting (record { profile = Some Spec; library_number = None }) ≡ true
+
+-- by the SHA-256 of the names
+pub record TargetsNumbered : Type 0 where
+  pub usual : number_of_target (codes "iqn.2026-11.localhost:vtl") ≡ record { number = 0xC32FF006 }
+  pub other : number_of_target (codes "iqn.2026-11.example:tapes") ≡ record { number = 0x99E02835 }

@@ -40,6 +40,12 @@ pub enum OptionFault {
     NoSlotForOthers,
     /// No list of digests by which hosts may answer.
     BadDigests,
+    /// What is the name of no profile.
+    BadProfile,
+    /// A number of a library that isn't 8 hexadecimal digits.
+    BadLibraryNumber,
+    /// A number for a library that isn't of the hosts' profile.
+    NumberWithoutHosts,
 }
 
 impl OptionFault {
@@ -96,6 +102,13 @@ impl OptionFault {
                 "vtl: --any-host can let nobody else in: each --host takes a slot at each --iscsi, and there are 128"
             }
             OptionFault::BadDigests => "vtl: not a list of CHAP digests: give sha256 or sha256,md5",
+            OptionFault::BadProfile => "vtl: not a profile: give spec or hosts",
+            OptionFault::BadLibraryNumber => {
+                "vtl: not the number of a library: give its 8 hexadecimal digits, such as 1A2B3C4D"
+            }
+            OptionFault::NumberWithoutHosts => {
+                "vtl: --library-id needs --profile hosts: no other library has a number"
+            }
         }
     }
 }

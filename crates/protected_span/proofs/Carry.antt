@@ -5,11 +5,11 @@ use Rattle.scsi_sense.specs.declared.condition.Condition.{Condition}
 use Rattle.scsi_sense.specs.declared.condition.Condition.TheVariants.{InternalTargetFailure}
 use Rattle.tape_medium.specs.declared.volume.Volume.{Volume}
 use Rattle.tape_medium.specs.declared.volume.VolumeTag.{VolumeTag}
-use Rattle.device_server.specs.View.{DeviceView, held_in, taken, put}
+use Rattle.device_server.specs.View.{DeviceView, held_in, taken, put, journeyed}
 use Rattle.device_server.specs.declared.fault.PutFault.{PutFault}
 use Rattle.device_server.specs.declared.fault.TakeFault.{TakeFault}
 use Rattle.logical_unit.specs.Medium.{taken_out, put_in}
-use Rattle.logical_unit.specs.Move.{TwoDrives, condition_of_medium, names_held, given, received, unloaded, passed, carried_by_one, carried_one, upward, downward, carried_two}
+use Rattle.logical_unit.specs.Move.{TwoDrives, condition_of_medium, names_held, given, received, unloaded, passed, carried_by_one, on_its_way, carried_one, upward, downward, carried_by_two, carried_two}
 use Rattle.logical_unit.specs.Route.{is_upward}
 use Rattle.logical_unit.specs.UnitView.{UnitView}
 use Rattle.logical_unit.specs.declared.medium_fault.MediumFault.{MediumFault}
@@ -40,6 +40,13 @@ same_as R S weaker (Ok a) (Ok b) h = weaker a b h
 same_as R S weaker (Err x) (Err y) h = h
 same_as R S weaker (Ok a) (Err y) h = absurd h
 same_as R S weaker (Err x) (Ok b) h = absurd h
+
+-- what is carried goes its way alike
+on_its_way_alike : {A : Type 0} (R : A → A → Type 0) (r : Route) (o p : Result (DeviceView × A) Condition) → Same (With R) o p → Same (With R) (on_its_way r o) (on_its_way r p)
+on_its_way_alike {A} R r (Ok a) (Ok c) h = (ap (λ (d : DeviceView). journeyed d r.source r.destination) h.0, h.1)
+on_its_way_alike {A} R r (Err x) (Err y) h = h
+on_its_way_alike {A} R r (Ok a) (Err y) h = absurd h
+on_its_way_alike {A} R r (Err x) (Ok c) h = absurd h
 
 -- a volume that leaves a drive, whose mark names it
 module _ (D : UnitView → UnitView → Type 0) (t : Takes D) where
@@ -103,7 +110,8 @@ module _ (D : UnitView → UnitView → Type 0) (t : Takes D) where
   -- a move that names one drive
   pub one_alike : (changer : DeviceView) (f g : UnitView) (o : Option Route) → D f g → Same (With D) (carried_one changer f o) (carried_one changer g o)
   one_alike changer f g None h = refl
-  one_alike changer f g (Some r) h = by_one_alike changer f g r r.from r.to h
+  one_alike changer f g (Some r) h =
+      on_its_way_alike D r (carried_by_one changer f r r.from r.to) (carried_by_one changer g r r.from r.to) (by_one_alike changer f g r r.from r.to h)
 
 -- two drives, each related as its place has it
 abbrev pub Handed : (D E : UnitView → UnitView → Type 0) → (a b : DeviceView × UnitView × UnitView) → Type 0
@@ -153,4 +161,5 @@ module _ (D E : UnitView → UnitView → Type 0) (t : Takes D) (s : Takes E) wh
   -- a move that names two
   pub two_alike : (changer : DeviceView) (ds es : TwoDrives) (o : Option Route) → BothDrives D E ds es → Same (With (BothDrives D E)) (carried_two changer ds o) (carried_two changer es o)
   two_alike changer ds es None h = refl
-  two_alike changer ds es (Some r) h = by_way_alike changer ds es r (is_upward r.from r.to) h
+  two_alike changer ds es (Some r) h =
+      on_its_way_alike (BothDrives D E) r (carried_by_two changer ds r) (carried_by_two changer es r) (by_way_alike changer ds es r (is_upward r.from r.to) h)

@@ -110,7 +110,7 @@ module _ (inside : Nexus → Bool) where
       pub reservations : P x.0.state.reservations → R x.0.state.reservations y.0.state.reservations
 
     alike : Alike inside f.state other.state
-    alike = record { lun = refl; units = refl; slots = slots; preventers = refl; own = own }
+    alike = record { lun = refl; units = refl; profile = refl; slots = slots; preventers = refl; own = own }
 
     same_both : (e g : Decision) (a : Reply) → Both (f, e, a) (other, g, a)
     same_both e g a = record { device = refl; state = alike; reply = says-refl exact a; reservations = λ _. related }
@@ -118,7 +118,7 @@ module _ (inside : Nexus → Bool) where
     told_both : (kind : Kind) (e g : Decision) → Both (tells f n kind e) (tells other n kind g)
     told_both kind e g = record {
       device = refl;
-      state = record { lun = refl; units = refl; slots = λ m within. change-alike f.state.slots r n m (λ ks. without_kind ks kind) (slots m within); preventers = refl; own = own };
+      state = record { lun = refl; units = refl; profile = refl; slots = λ m within. change-alike f.state.slots r n m (λ ks. without_kind ks kind) (slots m within); preventers = refl; own = own };
       reply = says-refl exact _;
       reservations = λ _. related;
     }
@@ -133,7 +133,7 @@ module _ (inside : Nexus → Bool) where
         → Both (at_cell at (record f { state = (sensed f.state n l o).0 }, (sensed f.state n l o).1, (sensed f.state n l o).2)) (at_cell to (record other { state = (sensed other.state n l o).0 }, (sensed other.state n l o).1, (sensed other.state n l o).2))
     sensed_both at to l (Some kind) = record {
       device = refl;
-      state = record { lun = refl; units = refl; slots = λ m within. change-alike f.state.slots r n m (λ ks. without_kind ks kind) (slots m within); preventers = refl; own = own };
+      state = record { lun = refl; units = refl; profile = refl; slots = λ m within. change-alike f.state.slots r n m (λ ks. without_kind ks kind) (slots m within); preventers = refl; own = own };
       reply = says-refl exact _;
       reservations = λ _. related;
     }
@@ -145,13 +145,13 @@ module _ (inside : Nexus → Bool) where
     prevents_both : (at to : Cell) (zero one : Bool) → Both (at_cell at (prevents_by f n zero one)) (at_cell to (prevents_by other n zero one))
     prevents_both at to true one = record {
       device = refl;
-      state = record { lun = refl; units = refl; slots = slots; preventers = refl; own = own_filter (λ p. not (same_nexus p n)) f.state.preventers own };
+      state = record { lun = refl; units = refl; profile = refl; slots = slots; preventers = refl; own = own_filter (λ p. not (same_nexus p n)) f.state.preventers own };
       reply = says-refl exact _;
       reservations = λ _. related;
     }
     prevents_both at to false true = record {
       device = refl;
-      state = record { lun = refl; units = refl; slots = slots; preventers = refl; own = own_prevented (is_among n f.state.preventers) f.state.preventers n own is };
+      state = record { lun = refl; units = refl; profile = refl; slots = slots; preventers = refl; own = own_prevented (is_among n f.state.preventers) f.state.preventers n own is };
       reply = says-refl exact _;
       reservations = λ _. related;
     }
@@ -159,7 +159,7 @@ module _ (inside : Nexus → Bool) where
 
     telling_both : (told : Option Kind) → Alike inside (after_telling f.state n told) (after_telling other.state n told)
     telling_both None = alike
-    telling_both (Some kind) = record { lun = refl; units = refl; slots = λ m within. raised_for_others-alike f.state.slots r n m kind (slots m within); preventers = refl; own = own }
+    telling_both (Some kind) = record { lun = refl; units = refl; profile = refl; slots = λ m within. raised_for_others-alike f.state.slots r n m kind (slots m within); preventers = refl; own = own }
 
     telling_reservations : (told : Option Kind) → R (after_telling f.state n told).reservations (after_telling other.state n told).reservations
     telling_reservations None = related
@@ -187,6 +187,7 @@ module _ (inside : Nexus → Bool) where
       state = record {
         lun = refl;
         units = refl;
+        profile = refl;
         slots = λ m within. fit.0.raised f.state.slots r m within (slots m within);
         preventers = fit.0.preventers f.state.preventers own;
         own = own_after p.act f.state.preventers (removed_by f.state.reservations n (act_of f.state.reservations n p)) own;

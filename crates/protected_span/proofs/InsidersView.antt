@@ -18,6 +18,7 @@ use Rattle.protected_span.specs.Span.{is_the_holder}
 pub record Alike (inside : Nexus → Bool) (f g : UnitStateView) : Type 0 where
   pub lun : f.lun ≡ g.lun
   pub units : f.units ≡ g.units
+  pub profile : f.profile ≡ g.profile
   pub slots : (n : Nexus) → inside n ≡ true → slot_of f.slots n ≡ slot_of g.slots n
   pub preventers : f.preventers ≡ g.preventers
   pub own : list_all inside f.preventers ≡ true

@@ -33,7 +33,7 @@ module _ (inside : Nexus → Bool) where
   PutsAlike o p = Same Beside o p
 
   medium_alike : (f g : UnitView) → Alike inside f.state g.state → Alike inside (with_medium f.state) (with_medium g.state)
-  medium_alike f g a = record { lun = a.lun; units = a.units; slots = λ m is. raised_for_all-alike f.state.slots g.state.slots m MediumChanged (a.slots m is); preventers = a.preventers; own = a.own }
+  medium_alike f g a = record { lun = a.lun; units = a.units; profile = a.profile; slots = λ m is. raised_for_all-alike f.state.slots g.state.slots m MediumChanged (a.slots m is); preventers = a.preventers; own = a.own }
 
   taken_alike : (f g : UnitView) (o : Result (Volume × DeviceView) TakeFault) → Beside f g → TakesAlike (taken_as f o) (taken_as g o)
   taken_alike f g (Ok it) b = (refl, record { device = refl; state = b.state })

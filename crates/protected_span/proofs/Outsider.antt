@@ -50,6 +50,7 @@ module _ (inside : Nexus → Bool) where
     pub device : v.device ≡ u.device
     pub lun : v.state.lun ≡ u.state.lun
     pub units : v.state.units ≡ u.state.units
+    pub profile : v.state.profile ≡ u.state.profile
     pub slots : (m : Nexus) → inside m ≡ true → slot_of v.state.slots m ≡ slot_of u.state.slots m
     pub preventers : v.state.preventers ≡ u.state.preventers
 
@@ -66,7 +67,7 @@ module _ (inside : Nexus → Bool) where
       ] refl
 
   left_same : (u : JudgedUnit) → Left u u
-  left_same u = record { device = refl; lun = refl; units = refl; slots = λ m is. refl; preventers = refl }
+  left_same u = record { device = refl; lun = refl; units = refl; profile = refl; slots = λ m is. refl; preventers = refl }
 
   and_parts : (a b : Bool) → (a && b) ≡ true → (a ≡ true) × (b ≡ true)
   and_parts true b h = (refl, h)
@@ -94,6 +95,7 @@ module _ (inside : Nexus → Bool) where
       device = refl;
       lun = refl;
       units = refl;
+      profile = refl;
       preventers = refl;
       slots = λ m is. change-apart u.state.slots n m (λ ks. without_kind ks kind) (apart m n is isnt);
     }
@@ -103,6 +105,7 @@ module _ (inside : Nexus → Bool) where
       device = refl;
       lun = refl;
       units = refl;
+      profile = refl;
       preventers = refl;
       slots = λ m is. change-apart u.state.slots n m (λ ks. without_kind ks kind) (apart m n is isnt);
     }
@@ -117,14 +120,14 @@ module _ (inside : Nexus → Bool) where
     allowed_class false c h = cc
 
     prevents_leaves : (prevent : ℕ) (zero one : Bool) → (prevent == 0) ≡ zero → Lets (class_of_command (Prevent prevent)) → Leaves (prevents_by u n zero one)
-    prevents_leaves prevent true one e lets g = record { device = refl; lun = refl; units = refl; slots = λ m is. refl; preventers = allowed_apart u.state.preventers n isnt own }
+    prevents_leaves prevent true one e lets g = record { device = refl; lun = refl; units = refl; profile = refl; slots = λ m is. refl; preventers = allowed_apart u.state.preventers n isnt own }
     prevents_leaves prevent false true e lets g =
         barred _ (subst (λ b. row_allows (group_of (cond b AllowRemoval PreventRemoval)) (res_type u.state.reservations) (role u.state.reservations n) ≡ true) e lets) shut.changing
     prevents_leaves prevent false false e lets g = left_same u
 
     telling_leaves : (d : DeviceView) (told : Option Kind) → d ≡ u.device → told ≡ None → Left u (record { device = d; state = after_telling u.state n told })
     telling_leaves d (Some kind) e f = cc
-    telling_leaves d None e f = record { device = e; lun = refl; units = refl; slots = λ m is. refl; preventers = refl }
+    telling_leaves d None e f = record { device = e; lun = refl; units = refl; profile = refl; slots = λ m is. refl; preventers = refl }
 
     steps_leaves : (at : Cell) (r : Request) (bytes : List ℕ) (b : Bool) → Lets (class_of r) → Leaves (at_cell at (cond b (u, at_stage stage.Device, check MediumRemovalPrevented) (steps u n (performed u.device r bytes))))
     steps_leaves at r bytes true lets g = left_same u
@@ -146,6 +149,7 @@ module _ (inside : Nexus → Bool) where
           device = refl;
           lun = refl;
           units = refl;
+          profile = refl;
           slots = λ m is. all_raised-apart (raised_by u.state.reservations n (act_of u.state.reservations n p)) u.state.slots m (c.raised m is);
           preventers = c.preventers u.state.preventers own;
         }

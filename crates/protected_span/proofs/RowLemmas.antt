@@ -64,11 +64,23 @@ say tag = record {
 pub may_not : MayNot
 may_not = record { we = refl; ea = refl; wero = refl; earo = refl; wear = refl; eaar = refl; registered = λ e. cc; holder = λ e. cc; unreserved = λ e. cc }
 
+-- what a drive of the hosts' profile keeps: whether its volume is held, and the compression
+abbrev held_of : {A : Type 0} → Option (A × Bool × Bool) → Bool
+held_of None = false
+held_of (Some it) = it.1
+
+abbrev compression_of : {A : Type 0} → Option (A × Bool × Bool) → Bool
+compression_of None = false
+compression_of (Some it) = it.2
+
 pub contents : (tag : VolumeTag) → Contents tag
 contents tag = record {
-  moved = (refl, refl, record { cartridge = record { tag = refl; protected = refl; capacity = refl }; objects = refl });
-  written = λ e. let same = e.2.objects in cc;
-  gone = λ e. e.2;
+  moved = (refl, refl, refl, record { cartridge = record { tag = refl; protected = refl; capacity = refl }; objects = refl });
+  written = λ e. let same = e.3.objects in cc;
+  gone = λ e. e.3;
   unloaded = λ e. let same = e.0 in cc;
   set = λ e. let same = e.1 in cc;
+  counted = λ h other. (refl, refl, refl, record { cartridge = record { tag = refl; protected = refl; capacity = refl }; objects = refl });
+  held = λ h e. let same : false ≡ true = ap held_of e.2 in cc;
+  compression = λ h e. let same : true ≡ false = ap compression_of e.2 in cc;
 }

@@ -209,7 +209,7 @@ module _ (h : Nexus) (commands : CommandSet) where
 pub holder_start : (h : Nexus) (u : UnitView) → Begins h u → Rel h (commands_of u.device) u u
 holder_start h u begins = record {
   device = refl;
-  state = record { lun = refl; units = refl; slots = λ m is. refl; preventers = refl; own = begins.alone };
+  state = record { lun = refl; units = refl; profile = refl; slots = λ m is. refl; preventers = refl; own = begins.alone };
   tables = record { same = record { holds = begins.hold.holds; other = begins.hold.holds; same_key = refl; keyed = begins.hold.keyed }; left = begins.table; right = begins.table };
   of_commands = refl;
 }
@@ -306,7 +306,7 @@ module _ (inside : Nexus → Bool) where
   }
 
   pub group_start : (u : UnitView) → IsShared inside u.state.reservations → list_all inside u.state.preventers ≡ true → RelG u u
-  group_start u shared own = record { device = refl; state = record { lun = refl; units = refl; slots = λ m is. refl; preventers = refl; own = own }; same = refl; shared = shared }
+  group_start u shared own = record { device = refl; state = record { lun = refl; units = refl; profile = refl; slots = λ m is. refl; preventers = refl; own = own }; same = refl; shared = shared }
 
 pub group_span : (us vs ws : List UnitView) (es : List Event) (rs qs : List Reply) (lun : ℕ) (inside : Nexus → Bool) (u : UnitView) → slice_get us lun ≡ Some u → IsShared inside u.state.reservations → list_all inside u.state.preventers ≡ true
     → RunsThrough (InSpan lun (KeptG inside) (AnyG inside)) us es rs vs → RunsThrough IsServed us (struck lun inside es) qs ws → EndsAlike lun vs ws × Tells lun inside (is_exact lun (all_exact inside)) es rs qs

@@ -15,6 +15,7 @@ use Rattle.pr_core.specs.State.{keys_after, is_registered}
 use Rattle.pr_core.proofs.KeyLaws.{key_in-put}
 use Rattle.tape_medium.specs.Elements.{empty_elements}
 use Rattle.tape_medium.specs.declared.volume.VolumeTag.{VolumeTag}
+use Rattle.device_server.specs.HostChanger.{spec_changer}
 use Rattle.device_server.specs.View.{DeviceView, Drive, Changer, profile_of}
 use Rattle.judgement.specs.declared.reply.Reply.{Reply}
 use Rattle.logical_unit.specs.Step.{Executes, answered, loses}
@@ -65,14 +66,14 @@ reserves code = record asks { rk = 1; sark = 0; act = out.Reserve; scope_type = 
 
 reached : (tag : VolumeTag) (lun : ℕ) (u : UnitView) → slice_get (units tag) lun ≡ Some u → IsReached u
 unfolding keys_after
-reached tag zero u here = subst IsReached (same_some changer u here) (power_on_is_reached (Changer (empty_elements 1 8 0)) 0 2 0)
+reached tag zero u here = subst IsReached (same_some changer u here) (power_on_is_reached (Changer (spec_changer (empty_elements 1 8 0))) 0 2 0)
 reached tag (suc zero) u here =
     subst IsReached (same_some (drive tag) u here) (record { commands = (a, registers) ∷ (a, reserves 3) ∷ []; reservations = refl; sorted = tt; few = omega arith })
 reached tag (suc (suc k)) u here = cc
 
 shared_reached : (tag : VolumeTag) (lun : ℕ) (u : UnitView) → slice_get (shared_units tag) lun ≡ Some u → IsReached u
 unfolding keys_after
-shared_reached tag zero u here = subst IsReached (same_some changer u here) (power_on_is_reached (Changer (empty_elements 1 8 0)) 0 2 0)
+shared_reached tag zero u here = subst IsReached (same_some changer u here) (power_on_is_reached (Changer (spec_changer (empty_elements 1 8 0))) 0 2 0)
 shared_reached tag (suc zero) u here =
     subst IsReached (same_some (shared_drive tag) u here) (record { commands = (a, registers) ∷ (a, reserves 6) ∷ []; reservations = refl; sorted = tt; few = omega arith })
 shared_reached tag (suc (suc k)) u here = cc
@@ -328,7 +329,7 @@ is_loaded_in (Changer e) = false
 
 abbrev count_in : DeviceView → ℕ
 count_in (Drive d) = 0
-count_in (Changer e) = length e.storage + length e.import_export
+count_in (Changer c) = length c.elements.storage + length c.elements.import_export
 
 abbrev count_at : Option UnitView → ℕ
 count_at None = 0

@@ -50,17 +50,18 @@ answers u v n cdb bytes r free (inr e) = e.2
 
 module _ (inside : Nexus → Bool) where
   -- what looked alike before looks alike after what those inside don't see
-  pub left_alike : (f f' g : UnitStateView) → Alike inside f g → f'.lun ≡ f.lun → f'.units ≡ f.units → ((m : Nexus) → inside m ≡ true → slot_of f'.slots m ≡ slot_of f.slots m) → f'.preventers ≡ f.preventers → Alike inside f' g
-  left_alike f f' g a lun units slots preventers = record {
+  pub left_alike : (f f' g : UnitStateView) → Alike inside f g → f'.lun ≡ f.lun → f'.units ≡ f.units → f'.profile ≡ f.profile → ((m : Nexus) → inside m ≡ true → slot_of f'.slots m ≡ slot_of f.slots m) → f'.preventers ≡ f.preventers → Alike inside f' g
+  left_alike f f' g a lun units profile slots preventers = record {
     lun = lun ∙ a.lun;
     units = units ∙ a.units;
+    profile = profile ∙ a.profile;
     slots = λ m is. slots m is ∙ a.slots m is;
     preventers = preventers ∙ a.preventers;
     own = ap (list_all inside) preventers ∙ a.own;
   }
 
   pub alike-sym : (f g : UnitStateView) → Alike inside f g → Alike inside g f
-  alike-sym f g a = record { lun = sym a.lun; units = sym a.units; slots = λ m is. sym (a.slots m is); preventers = sym a.preventers; own = ap (list_all inside) (sym a.preventers) ∙ a.own }
+  alike-sym f g a = record { lun = sym a.lun; units = sym a.units; profile = sym a.profile; slots = λ m is. sym (a.slots m is); preventers = sym a.preventers; own = ap (list_all inside) (sym a.preventers) ∙ a.own }
 
   -- THE STEP OF A NEXUS OUTSIDE, at one of the two
   pub strike_unit : (f f' : UnitView) (g : UnitView) (n : Nexus) (cdb bytes : List ℕ) (r : Reply) → f.device ≡ g.device → Alike inside f.state g.state → inside n ≡ false
@@ -76,7 +77,7 @@ module _ (inside : Nexus → Bool) where
       let is : f' ≡ (answered f n cdb bytes).0 = ap (λ (y : UnitView × Reply). y.0) e.2 in
       let left : Left inside u x.0 = judged_leaves inside u n isnt shut alike.own P calm (decoded_command (commands_of f.device) cdb bytes) bytes (subst (λ (y : UnitView). P y.state.reservations) is good) in
       let state : Alike inside x.0.state g.state =
-      left_alike f.state x.0.state g.state alike left.lun left.units (λ m within. left.slots m within ∙ contact-apart f.state.slots n m (apart inside m n within isnt)) left.preventers in
+      left_alike f.state x.0.state g.state alike left.lun left.units left.profile (λ m within. left.slots m within ∙ contact-apart f.state.slots n m (apart inside m n within isnt)) left.preventers in
       (ap (λ (y : UnitView). y.device) is ∙ left.device ∙ device, subst (λ (y : UnitView). Alike inside y.state g.state) (sym is) state)
 
   says_reply : (exact : Bool) (x y : Reply) (a b : ℕ) → Says exact x y → SameReply exact false (record x { number = a }) (record y { number = b })
@@ -132,7 +133,7 @@ module _ (inside : Nexus → Bool) where
       let slots : (m : Nexus) → inside m ≡ true → slot_of u.state.slots m ≡ slot_of (contacted g.state.slots n) m = λ m within. contact-alike f.state.slots g.state.slots n m (alike.slots m within) in
       let o = other inside u g.state.reservations (contacted g.state.slots n) n is alike.own slots P R related exact in
       let shape : contacted_present g n ≡ o =
-      λ i. record { device = sym device i; state = record { lun = sym alike.lun i; units = sym alike.units i; reservations = g.state.reservations; slots = contacted g.state.slots n; preventers = sym alike.preventers i } } in
+      λ i. record { device = sym device i; state = record { lun = sym alike.lun i; units = sym alike.units i; profile = sym alike.profile i; reservations = g.state.reservations; slots = contacted g.state.slots n; preventers = sym alike.preventers i } } in
       let b = judged_both u g.state.reservations (contacted g.state.slots n) n is alike.own slots P R related exact (decoded_command (commands_of f.device) cdb bytes) bytes fits in
       subst (λ (x : JudgedUnit × Decision × Reply). Beside P R exact (judged u n cdb bytes) x) (sym (ap (λ (p : JudgedUnit). judged p n cdb bytes) shape)) (record { device = b.device; state = b.state; reply = b.reply; reservations = b.reservations })
 
@@ -171,13 +172,14 @@ module _ (inside : Nexus → Bool) where
 
   -- what a loss of a nexus outside leaves
   lost_left : (f : UnitStateView) (u : UnitView) (n : Nexus) (known : Bool) → u.state ≡ f → inside n ≡ false → list_all inside f.preventers ≡ true → Alike inside (cond known (loses u n) u).state f
-  lost_left f u n false e isnt own = subst (λ (k : UnitStateView). Alike inside u.state k) e (record { lun = refl; units = refl; slots = λ m is. refl; preventers = refl; own = ap (λ (k : UnitStateView). list_all inside k.preventers) e ∙ own })
+  lost_left f u n false e isnt own = subst (λ (k : UnitStateView). Alike inside u.state k) e (record { lun = refl; units = refl; profile = refl; slots = λ m is. refl; preventers = refl; own = ap (λ (k : UnitStateView). list_all inside k.preventers) e ∙ own })
   lost_left f u n true e isnt own =
       let mine : list_all inside u.state.preventers ≡ true = ap (λ (k : UnitStateView). list_all inside k.preventers) e ∙ own in
       let ends = allowed_apart inside u.state.preventers n isnt mine in
       subst (λ (k : UnitStateView). Alike inside (loses u n).state k) e (record {
         lun = refl;
         units = refl;
+        profile = refl;
         slots = λ m is. change-apart u.state.slots n m (λ ks. with_kind ks NexusLoss) (apart inside m n is isnt);
         preventers = ends;
         own = ap (list_all inside) ends ∙ mine;
@@ -189,13 +191,14 @@ module _ (inside : Nexus → Bool) where
   lost_both f g n true a = record {
     lun = a.lun;
     units = a.units;
+    profile = a.profile;
     slots = λ m is. change-alike f.state.slots g.state.slots n m (λ ks. with_kind ks NexusLoss) (a.slots m is);
     preventers = ap (filter (λ p. not (same_nexus p n))) a.preventers;
     own = own_filter inside (λ p. not (same_nexus p n)) f.state.preventers a.own;
   }
 
   pub alike_trans : (f g k : UnitStateView) → Alike inside f g → Alike inside g k → Alike inside f k
-  alike_trans f g k a b = record { lun = a.lun ∙ b.lun; units = a.units ∙ b.units; slots = λ m is. a.slots m is ∙ b.slots m is; preventers = a.preventers ∙ b.preventers; own = a.own }
+  alike_trans f g k a b = record { lun = a.lun ∙ b.lun; units = a.units ∙ b.units; profile = a.profile ∙ b.profile; slots = λ m is. a.slots m is ∙ b.slots m is; preventers = a.preventers ∙ b.preventers; own = a.own }
 
   lost_alike : (f g : UnitView) (n : Nexus) → Alike inside f.state g.state → Alike inside (cond (has_slot f.state.slots n) (loses f n) f).state (cond (has_slot g.state.slots n) (loses g n) g).state
   lost_alike f g n a =
@@ -246,6 +249,7 @@ module _ (inside : Nexus → Bool) where
         state = subst (λ (u : UnitView). Alike inside u.state g'.state) (sym x.0) (subst (λ (u : UnitView). Alike inside (resets f).state u.state) (sym y.0) (record {
           lun = a.lun;
           units = a.units;
+          profile = a.profile;
           slots = λ m is. reset-alike f.state.slots g.state.slots m (a.slots m is);
           preventers = refl;
           own = refl;

@@ -3,6 +3,7 @@ use Rattle.std.specs.Prelude.{◌≡◌, ℕ, true, false, List, [], ◌∷◌, 
 use Rattle.std.specs.Global.{Vec}
 use Rattle.arrayvec.specs.ArrayVec.{ArrayVec}
 use Rattle.scsi_cdb.specs.declared.service_action.OutServiceAction.TheVariants as out
+use Rattle.scsi_cdb.specs.declared.profile.Profile.TheVariants.{Spec}
 use Rattle.scsi_nexus.specs.declared.nexus.Nexus.{Nexus}
 use Rattle.scsi_nexus.specs.Order.{same_nexus}
 use Rattle.scsi_sense.specs.declared.status.Status.{Status}
@@ -20,6 +21,7 @@ use Rattle.tape_medium.specs.Object.{Block}
 use Rattle.tape_medium.specs.Tape.{blank}
 use Rattle.tape_medium.specs.TapeView.{TapeView}
 use Rattle.tape_medium.specs.declared.volume.VolumeTag.{VolumeTag}
+use Rattle.device_server.specs.declared.host_drive.HostDrive.{HostDrive}
 use Rattle.device_server.specs.View.{DeviceView, Drive}
 use Rattle.judgement.specs.declared.reply.Reply.{Reply}
 use Rattle.judgement.specs.UnitStateView.{UnitStateView}
@@ -41,10 +43,10 @@ abbrev pub held_by_a : State
 held_by_a = record { keys = (a, 1) ∷ []; reservation = Some (type.Ea, a); generation = 1 }
 
 abbrev pub kept_with : State → List Nexus → UnitStateView
-kept_with v preventers = record { lun = 1; units = 2; reservations = v; slots = (a, []) ∷ (b, []) ∷ []; preventers = preventers }
+kept_with v preventers = record { lun = 1; units = 2; profile = Spec; reservations = v; slots = (a, []) ∷ (b, []) ∷ []; preventers = preventers }
 
 abbrev pub drive_at : VolumeTag → TapeView → DeviceView
-drive_at tag tape = Drive (record { bay = Some (record { tag = tag; protected = false; tape = tape }); loaded = true; block_length = 0 })
+drive_at tag tape = Drive (record { bay = Some (record { tag = tag; protected = false; tape = tape }); loaded = true; block_length = 0; hosts = None })
 
 abbrev pub unit_with : VolumeTag → State → List Nexus → UnitView
 unit_with tag v preventers = record { device = drive_at tag (blank 1000); state = kept_with v preventers; base = record { state = kept_with v preventers; last = 0 }; records = [] }
@@ -207,16 +209,23 @@ pub record MayNot : Type 0 where
   pub holder : MayNotChange (held_as type.We both_keys) a → ⊥
   pub unreserved : MayNotChange (record { keys = both_keys; reservation = None; generation = 2 }) b → ⊥
 
--- what counts as the same contents: the position may move, and nothing else
+-- what counts as the same contents: the position may move, and in the hosts' profile the counters grow, and nothing else
 abbrev pub at_position : ℕ → TapeView → TapeView
 at_position position t = record t { position = position }
 
 abbrev pub one_block : TapeView
 one_block = record (blank 1000) { objects = Block (7 ∷ []) ∷ [] }
 
+abbrev pub host_drive_at : VolumeTag → HostDrive → DeviceView
+host_drive_at tag h =
+    Drive (record { bay = Some (record { tag = tag; protected = false; tape = one_block }); loaded = true; block_length = 0; hosts = Some h })
+
 pub record Contents (tag : VolumeTag) : Type 0 where
   pub moved : SameContents (drive_at tag one_block) (drive_at tag (at_position 1 one_block))
   pub written : SameContents (drive_at tag (blank 1000)) (drive_at tag one_block) → ⊥
-  pub gone : SameContents (drive_at tag one_block) (Drive (record { bay = None; loaded = false; block_length = 0 })) → ⊥
-  pub unloaded : SameContents (drive_at tag one_block) (Drive (record { bay = Some (record { tag = tag; protected = false; tape = one_block }); loaded = false; block_length = 0 })) → ⊥
-  pub set : SameContents (drive_at tag one_block) (Drive (record { bay = Some (record { tag = tag; protected = false; tape = one_block }); loaded = true; block_length = 1 })) → ⊥
+  pub gone : SameContents (drive_at tag one_block) (Drive (record { bay = None; loaded = false; block_length = 0; hosts = None })) → ⊥
+  pub unloaded : SameContents (drive_at tag one_block) (Drive (record { bay = Some (record { tag = tag; protected = false; tape = one_block }); loaded = false; block_length = 0; hosts = None })) → ⊥
+  pub set : SameContents (drive_at tag one_block) (Drive (record { bay = Some (record { tag = tag; protected = false; tape = one_block }); loaded = true; block_length = 1; hosts = None })) → ⊥
+  pub counted : (h other : HostDrive) → SameContents (host_drive_at tag h) (host_drive_at tag (record h { counters = other.counters }))
+  pub held : (h : HostDrive) → SameContents (host_drive_at tag (record h { held = false })) (host_drive_at tag (record h { held = true })) → ⊥
+  pub compression : (h : HostDrive) → SameContents (host_drive_at tag (record h { compression = true })) (host_drive_at tag (record h { compression = false })) → ⊥

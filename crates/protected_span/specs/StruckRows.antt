@@ -13,6 +13,7 @@ use Rattle.pr_core.specs.State.{State}
 use Rattle.tape_medium.specs.Elements.{empty_elements}
 use Rattle.tape_medium.specs.Tape.{blank}
 use Rattle.tape_medium.specs.declared.volume.VolumeTag.{VolumeTag}
+use Rattle.device_server.specs.HostChanger.{spec_changer}
 use Rattle.device_server.specs.View.{DeviceView, Drive, Changer}
 use Rattle.judgement.specs.declared.reply.Reply.{Reply}
 use Rattle.judgement.specs.Commands.{decoded_command}
@@ -26,7 +27,7 @@ use Rattle.protected_span.specs.Struck.{struck, RunsThrough, IsServed, is_exact,
 
 -- THE UNITS: a changer at power on, and the drive, with its tape loaded, as A holds it
 abbrev pub changer : UnitView
-changer = made (Changer (empty_elements 1 8 0)) 0 2 0
+changer = made (Changer (spec_changer (empty_elements 1 8 0))) 0 2 0
 
 abbrev pub drive : VolumeTag → UnitView
 drive tag = unit_with tag held_by_a []
@@ -46,7 +47,7 @@ shared_units tag = changer ∷ shared_drive tag ∷ []
 
 -- a drive whose tape isn't loaded
 abbrev pub unloaded : VolumeTag → DeviceView
-unloaded tag = Drive (record { bay = Some (record { tag = tag; protected = false; tape = blank 1000 }); loaded = false; block_length = 0 })
+unloaded tag = Drive (record { bay = Some (record { tag = tag; protected = false; tape = blank 1000 }); loaded = false; block_length = 0; hosts = None })
 
 -- WHAT COMES, with any data: B's WRITE(6) of two bytes to the drive, A's LOAD UNLOAD there, which unloads, B's TEST UNIT READY to the
 -- changer, and a loss of B at the drive
@@ -175,6 +176,6 @@ pub record EndingAlike (tag : VolumeTag) : Type 0 where
   pub same : EndsAs tag (units tag)
   pub another_registration : EndsAs tag (changer ∷ shared_drive tag ∷ [])
   pub another_device : EndsAs tag (changer ∷ record (drive tag) { device = unloaded tag } ∷ []) → ⊥
-  pub another_changer : EndsAs tag (record changer { device = Changer (empty_elements 1 9 0) } ∷ drive tag ∷ []) → ⊥
+  pub another_changer : EndsAs tag (record changer { device = Changer (spec_changer (empty_elements 1 9 0)) } ∷ drive tag ∷ []) → ⊥
   pub told_changer : EndsAs tag (record changer { state = record changer.state { slots = (b, []) ∷ [] } } ∷ drive tag ∷ []) → ⊥
   pub one_more : EndsAs tag (changer ∷ drive tag ∷ changer ∷ []) → ⊥

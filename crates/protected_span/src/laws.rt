@@ -35,7 +35,9 @@ pub fn spans_are_runs()
 
 /// A command of a nexus to which the permission table closes the changing classes leaves what is in the
 /// unit: of a drive the volume (tag, protection, objects, capacity), whether it is loaded and the block
-/// length, of a changer its elements. The position may move. Every other unit it leaves whole.
+/// length, of a changer its elements; in the hosts' profile also which unit it is, whether its volume is
+/// held, the compression, and from where volumes came. The position may move, and counters may grow.
+/// Every other unit it leaves whole.
 pub fn outsider_changes_nothing()
     ensures { OutsiderChangesNothing }
 {}

@@ -5,6 +5,7 @@ use Rattle.std.specs.Prelude.{codes}
 use Rattle.hex.specs.Hex.{encode_with}
 use Rattle.tape_medium.specs.Elements.{empty_elements}
 use Rattle.audit_log.specs.Lines.{line_of}
+use Rattle.device_server.specs.HostChanger.{spec_changer}
 use Rattle.device_server.specs.View.{Changer}
 use Rattle.logical_unit.specs.Step.{made, resets, event_reply}
 use Rattle.target_core.specs.declared.event.Event.TheVariants as event
@@ -50,7 +51,7 @@ ran = record {
   replies = event_reply 1 ∷ [];
   whole = record { consumed = refl; ended = refl; bounded = lit≤ tt };
   script = refl;
-  run = (target (reset ∷ []), record { unit = resets (made (Changer (empty_elements 1 0 8)) 0 2 0); step = inr (1, (lit< tt, refl), refl); units = refl }, refl);
+  run = (target (reset ∷ []), record { unit = resets (made (Changer (spec_changer (empty_elements 1 0 8))) 0 2 0); step = inr (1, (lit< tt, refl), refl); units = refl }, refl);
 }
 
 pub replays_run : ReplaysRun

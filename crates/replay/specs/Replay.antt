@@ -3,6 +3,7 @@ use Rattle.std.specs.Prelude.{◌≡◌, ℕ, List, ◌++◌, Option, Ok, Err}
 use Rattle.std.specs.Io.KnownBytes.{Appends}
 use Rattle.logical_unit.specs.UnitView.{UnitView}
 use Rattle.judgement.specs.declared.reply.Reply.{Reply}
+use Rattle.target_core.specs.Faults.{profile_in}
 use Rattle.target_core.specs.Run.{Runs}
 use Rattle.target_core.specs.declared.event.Event.{Event}
 use Rattle.output_lines.specs.declared.audit_lines.Audit.{Audit}
@@ -24,11 +25,11 @@ pub record HasRun (turns : ℕ) (left left' : Option (List ℕ)) (core core' : L
   pub script : script_in input ≡ Ok (saids events)
   pub run : Runs core events replies core'
 
--- and the lines of its replies were written, with their words where they are wanted, and then those of the records that the units have
+-- and the lines of its replies were written, with their words by the library's profile where they are wanted, and then those of the records that the units have
 -- now, where they are wanted
 pub record Replays (turns : ℕ) (left left' : Option (List ℕ)) (core core' : List UnitView) (explanations : Explanations) (audit : Audit) (written written' : Option (List ℕ)) : Type 0 where
   pub ran : HasRun turns left left' core core'
-  pub lines : Appends written written' (run_text explanations ran.events ran.replies ++ audit_text audit core')
+  pub lines : Appends written written' (run_text (profile_in core) explanations ran.events ran.replies ++ audit_text audit core')
 
 -- the input was read whole, and its line n is the first with a fault
 pub record Refuses (turns : ℕ) (left left' : Option (List ℕ)) (n : ℕ) (fault : LineFault) : Type 0 where

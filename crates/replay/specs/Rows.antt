@@ -6,6 +6,7 @@ use Rattle.audit_log.specs.declared.act.Act.TheVariants.{Reset}
 use Rattle.audit_log.specs.declared.record.Record.{Record}
 use Rattle.audit_log.specs.declared.stage.Stage.TheVariants.{Device}
 use Rattle.device_server.specs.Drive.{empty_drive}
+use Rattle.device_server.specs.HostChanger.{spec_changer}
 use Rattle.device_server.specs.View.{Drive, Changer}
 use Rattle.logical_unit.specs.Step.{made}
 use Rattle.logical_unit.specs.UnitView.{UnitView}
@@ -42,7 +43,7 @@ pub record FaultsInOrder : Type 0 where
 -- a target with one drive, whose changer has these records
 abbrev pub target : List Record → List UnitView
 target records =
-    let changer = made (Changer (empty_elements 1 0 8)) 0 2 0 in
+    let changer = made (Changer (spec_changer (empty_elements 1 0 8))) 0 2 0 in
     record changer { records = records } ∷ made (Drive empty_drive) 1 2 0 ∷ []
 
 -- a reset of the changer, as its record 1

@@ -7,6 +7,7 @@ ghost use Rattle.output_lines.specs.Replies.{text_of};
 ghost use Rattle.target_core.specs.declared.event.Event.{Event};
 ghost use Rattle.target_core.specs.Run.{Runs};
 ghost use Rattle.judgement.specs.declared.reply.Reply.{Reply};
+ghost use Rattle.scsi_cdb.specs.declared.profile.Profile.{Profile};
 ghost use Rattle.replay.specs.Texts.{run_text};
 ghost use Rattle.replay.specs.Rows.{FaultsTold, FaultsInOrder, ReplaysRun};
 
@@ -19,6 +20,6 @@ pub fn worked_rows()
 
 /// Without explanations, what is written of a run is just a line for each of its replies.
 pub fn lines_alone()
-    ensures { (core left : List UnitView) (events : List Event) (replies : List Reply)
-        → Runs core events replies left → run_text Off events replies ≡ text_of replies }
+    ensures { (profile : Profile) (core left : List UnitView) (events : List Event) (replies : List Reply)
+        → Runs core events replies left → run_text profile Off events replies ≡ text_of replies }
 {}

@@ -18,11 +18,8 @@ use std::io;
 use std::io::{Read, Write};
 use target_core::{Event, TargetCore};
 
-/// The profile of the library of a script.
-const PROFILE: Profile = Profile::Spec;
-
 /// Reads a script to its end, by at most `turns` reads of at most 65,536 bytes, runs its events and
-/// writes a line for each reply, with one behind it that says it in words where those are wanted, and then,
+/// writes a line for each reply, with one behind it that says it in words, by the profile of its library, where those are wanted, and then,
 /// where they are wanted, the lines of the records that the units have after the run. The whole script is checked before the run, and the whole output is
 /// made before its first byte is written.
 ///
@@ -58,7 +55,8 @@ pub fn replay<D: DeviceServer, R: Read, W: Write>(
     // The events hold all that is wanted of it.
     drop(input);
     let mut text = Vec::new(alloc);
-    run(alloc, core, events, explanations, &mut text)?;
+    let profile = core.profile();
+    run(alloc, core, events, explanations, profile, &mut text)?;
     let records = audit_text(alloc, audit, core.all())?;
     match write_both(writer, &text, records.as_bytes()) {
         Ok(()) => Ok(()),
@@ -73,14 +71,15 @@ fn run<D: DeviceServer>(
     core: &mut TargetCore<D>,
     events: Events,
     explanations: Explanations,
+    profile: Profile,
     text: &mut Vec<u8>,
 ) -> Result<(), AllocError>
     ensures { (replies : List Reply) × Runs (units_of core.old) events replies (units_of core.new)
-        × OnOk result (text.new.items ≡ text.old.items ++ run_text explanations events replies) }
+        × OnOk result (text.new.items ≡ text.old.items ++ run_text profile explanations events replies) }
 {
     let mut written = Ok(());
     for piece in events.into_pieces() {
-        written = run_piece(alloc, core, &piece, explanations, text, written);
+        written = run_piece(alloc, core, &piece, explanations, profile, text, written);
     }
     written
 }
@@ -91,17 +90,18 @@ fn run_piece<D: DeviceServer>(
     core: &mut TargetCore<D>,
     events: &[Event],
     explanations: Explanations,
+    profile: Profile,
     text: &mut Vec<u8>,
     before: Result<(), AllocError>,
 ) -> Result<(), AllocError>
     ensures { (replies : List Reply) × Runs (units_of core.old) events.now replies (units_of core.new)
-        × OnOk result (IsOk before × (text.new.items ≡ text.old.items ++ run_text explanations events.now replies)) }
+        × OnOk result (IsOk before × (text.new.items ≡ text.old.items ++ run_text profile explanations events.now replies)) }
 {
     let mut written = before;
     for event in events {
         let reply = core.step(alloc, event);
         if written.is_ok() {
-            written = write_event(text, explanations, event, &reply);
+            written = write_event(text, explanations, profile, event, &reply);
         }
     }
     written
@@ -111,15 +111,16 @@ fn run_piece<D: DeviceServer>(
 fn write_event(
     text: &mut Vec<u8>,
     explanations: Explanations,
+    profile: Profile,
     event: &Event,
     reply: &Reply,
 ) -> Result<(), AllocError>
-    ensures { OnOk result (text.new.items ≡ text.old.items ++ event_text explanations event.now reply.now) }
+    ensures { OnOk result (text.new.items ≡ text.old.items ++ event_text profile explanations event.now reply.now) }
 {
     write_explained(
         text,
         explanations,
-        PROFILE,
+        profile,
         lun_of(event),
         cdb_of(event),
         reply.status,

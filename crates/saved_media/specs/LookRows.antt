@@ -1,5 +1,5 @@
 -- Values of worked rows: a volume of two filemarks in a drive, the part of its image, and an attendant that notes what it sees.
-use Rattle.std.specs.Prelude.{◌≡◌, ℕ, true, false, List, [], ◌∷◌, ◌++◌, Some}
+use Rattle.std.specs.Prelude.{◌≡◌, ℕ, true, false, List, [], ◌∷◌, ◌++◌, Some, None}
 use Rattle.tape_medium.specs.Object.{Mark}
 use Rattle.tape_medium.specs.declared.volume.Volume.{Volume}
 use Rattle.tape_medium.specs.declared.volume.VolumeTag.{VolumeTag}
@@ -30,7 +30,7 @@ marked_volume unchanged tag =
     record { tag = tag; protected = false; tape = record { objects = Mark ∷ Mark ∷ []; position = 0; capacity = 10; unchanged = unchanged } }
 
 abbrev pub drive_of_marks : (unchanged : ℕ) → VolumeTag → DriveView
-drive_of_marks unchanged tag = record { bay = Some (marked_volume unchanged tag); loaded = true; block_length = 0 }
+drive_of_marks unchanged tag = record { bay = Some (marked_volume unchanged tag); loaded = true; block_length = 0; hosts = None }
 
 -- as it was loaded, and once a part of one object was taken
 abbrev pub loaded_drive : VolumeTag → DriveView

@@ -14,6 +14,7 @@ use crate::watch::{Extent, Watch};
 use crate::wish::{Wish, wish_of};
 use library_inventory::{AddFault, LibrarySize};
 use library_start::Device;
+use program_options::LibraryProfile;
 use std::alloc::{AllocError, Global};
 use std::marker::Model;
 use std::sync::{Mutex, Wait};
@@ -28,6 +29,7 @@ use tickets::{Outcome, Ticket};
 /// Keeps the tapes of a library, each in its image, and the inventory of where they are. Contracts see the images.
 #[derive(Drop)]
 pub struct MediaKeeper<S: ImageStore + Drop, N: InventoryStore + Drop> {
+    profile: LibraryProfile,
     size: LibrarySize,
     images: Vec<VolumeImage<S>>,
     inventory: Mutex<N>,
@@ -48,9 +50,10 @@ impl<S: ImageStore + Drop, N: InventoryStore + Drop> Model for MediaKeeper<S, N>
 }
 
 impl<S: ImageStore + Drop, N: InventoryStore + Drop> MediaKeeper<S, N> {
-    /// Of a library with the volumes of these images. Asking it to keep something needs no memory later.
+    /// Of a library of a profile with the volumes of these images. Asking it to keep something needs no memory later.
     pub fn new(
         alloc: Global,
+        profile: LibraryProfile,
         size: LibrarySize,
         images: Vec<VolumeImage<S>>,
         store: N,
@@ -59,6 +62,7 @@ impl<S: ImageStore + Drop, N: InventoryStore + Drop> MediaKeeper<S, N> {
     {
         let requests = SharedRequests::new(alloc, images.len())?;
         Ok(MediaKeeper {
+            profile,
             size,
             images,
             inventory: Mutex::new(store),
@@ -236,7 +240,7 @@ impl<S: ImageStore + Drop, N: InventoryStore + Drop> MediaKeeper<S, N> {
         listener: &H,
     ) -> bool {
         let mut store = self.inventory.lock(rt);
-        let mut listing = Listing::new(alloc, self.size);
+        let mut listing = Listing::new(alloc, self.profile, self.size);
         source.attend(rt, 0, &mut listing);
         let written = match listing.fault {
             Some(AddFault::NoMemory) => Err(KeepFault::NoMemory),

@@ -1,4 +1,4 @@
-//! Where the volumes of a library are, as its changer notes it.
+//! Where the volumes of a library are and from where those in drives came, as its changer notes it.
 
 ghost use Rattle.std.specs.Prelude.{◌≡◌};
 ghost use Rattle.device_server.specs.Settled.{SameButSettled};
@@ -6,10 +6,11 @@ ghost use Rattle.device_server.specs.Settled.{SameButSettled};
 use device_server::{Attendant, DeviceServer};
 use library_inventory::{AddFault, Element, Inventory, LibrarySize, PlacedVolume};
 use library_start::Device;
+use program_options::LibraryProfile;
 use std::alloc::Global;
 use tape_medium::{FIRST_DATA_TRANSFER, FIRST_IMPORT_EXPORT, FIRST_STORAGE};
 
-/// Notes where the volumes of a changer are, those in drives by their marks. Nothing of the changer changes.
+/// Notes where the volumes of a changer are, those in drives by their marks and with their sources. Nothing of the changer changes.
 #[derive(Drop)]
 pub(crate) struct Listing {
     pub alloc: Global,
@@ -20,10 +21,10 @@ pub(crate) struct Listing {
 
 impl Listing {
     /// Nothing was noted yet.
-    pub fn new(alloc: Global, size: LibrarySize) -> Listing {
+    pub fn new(alloc: Global, profile: LibraryProfile, size: LibrarySize) -> Listing {
         Listing {
             alloc,
-            inventory: Inventory::new(alloc, size),
+            inventory: Inventory::new(alloc, profile, size),
             fault: None,
         }
     }
@@ -33,8 +34,24 @@ impl Listing {
         let Some(tag) = device.held(address) else {
             return;
         };
-        if let Err(fault) = self.inventory.add(PlacedVolume { tag, element }) {
+        let placed = PlacedVolume {
+            tag,
+            element,
+            source: self.source_of(device, address, element),
+        };
+        if let Err(fault) = self.inventory.add(placed) {
             self.fault = Some(fault);
+        }
+    }
+
+    /// The source of the volume in an element, which is noted of those in drives alone.
+    fn source_of(&self, device: &Device, address: u16, element: Element) -> Option<Element> {
+        match element {
+            Element::DataTransfer(_) => {
+                let source = device.source(address)?;
+                self.inventory.size().outside_drives_at(source)
+            }
+            Element::Storage(_) | Element::ImportExport(_) => None,
         }
     }
 }

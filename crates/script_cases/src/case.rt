@@ -3,7 +3,7 @@ ghost use Rattle.command_line.specs.Tasks.{IsDoable, MakesLibrary};
 use command_line::{Task, task_of};
 use library_start::library;
 use output_lines::{Audit, Explanations};
-use program_options::{LibraryOptions, MAX_READS};
+use program_options::{LibraryOptions, LibraryProfile, MAX_READS};
 use replay::{ReplayFault, replay};
 use std::alloc::{AllocError, Global};
 use std::io;
@@ -47,8 +47,15 @@ impl Case {
         requires { IsDoable task }
     {
         match task {
-            Task::Replay(options, explanations, audit) => {
-                let outcome = replay_script(rt, &self.script, options, explanations, audit);
+            Task::Replay(options, profile, explanations, audit) => {
+                let outcome = replay_script(
+                    rt,
+                    &self.script,
+                    options,
+                    profile,
+                    explanations,
+                    audit,
+                );
                 tell_fault(rt, outcome)
             }
             _ => println!(rt; "no replay"),
@@ -74,12 +81,13 @@ fn replay_script(
     rt: &(impl AllocGlobal + Print),
     script: &[u8],
     options: LibraryOptions,
+    profile: LibraryProfile,
     explanations: Explanations,
     audit: Audit,
 ) -> Result<(), ReplayFault>
     requires { MakesLibrary options }
 {
-    let mut core = library(rt.alloc(), &options)?;
+    let mut core = library(rt.alloc(), &options, profile)?;
     let mut reader = script;
     let mut writer = io::writer(rt);
     replay(

@@ -37,7 +37,7 @@ class_of request.Erase = class.Erase
 class_of (request.ModeSense dbd pc page subpage n) = class.ModeSense
 class_of (request.LoadUnload hold eot load) = class.LoadUnload
 class_of (request.PreventAllowMediumRemoval prevent) = if prevent == 0 then class.AllowRemoval else class.PreventRemoval
-class_of (request.Locate bt cp n) = class.Locate
+class_of (request.Locate bt cp n partition) = class.Locate
 class_of request.ReadPosition = class.ReadPosition
 class_of (request.PersistentReserveIn action n) = class.PersistentReserveIn
 class_of (request.PersistentReserveOut action scope_type n) = class_of_action action

@@ -98,7 +98,7 @@ table profile =
     ∷ row 0x1A 6 Both (λ c. Some (ModeSense (bit c 1 3) (bits c 2 7 6) (bits c 2 5 0) (byte c 3) (byte c 4)))
     ∷ row 0x1B 6 Drives (λ c. Some (LoadUnload (bit c 4 3) (bit c 4 2) (bit c 4 0)))
     ∷ row 0x1E 6 Both (λ c. Some (PreventAllowMediumRemoval (bits c 4 1 0)))
-    ∷ row 0x2B 10 Drives (λ c. Some (Locate (bit c 1 2) (bit c 1 1) (four_bytes c 3)))
+    ∷ row 0x2B 10 Drives (λ c. Some (Locate (bit c 1 2) (bit c 1 1) (four_bytes c 3) (byte c 8)))
     ∷ row 0x34 10 Drives (λ c. read_position profile (bits c 1 4 0))
     ∷ row 0x5E 10 Both (λ c. reserve_in (in_service_action (bits c 1 4 0)) (two_bytes c 7))
     ∷ row 0x5F 10 Both (λ c. reserve_out (out_service_action (bits c 1 4 0)) (byte c 2) (four_bytes c 5))

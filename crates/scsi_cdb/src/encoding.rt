@@ -96,10 +96,11 @@ pub fn encode(request: &Request) -> [u8; CDB_LENGTH]
             block_address_type,
             change_partition,
             logical_object_identifier,
+            partition,
         } => {
             let flags = flag(BT_BIT, block_address_type) + flag(CP_BIT, change_partition);
             let [n3, n2, n1, n0] = logical_object_identifier.to_be_bytes();
-            zero_padded(&[LOCATE_10, flags, 0, n3, n2, n1, n0])
+            zero_padded(&[LOCATE_10, flags, 0, n3, n2, n1, n0, 0, partition])
         }
         Request::ReadPosition => zero_padded(&[READ_POSITION]),
         Request::PersistentReserveIn {

@@ -81,9 +81,9 @@ pub fn worked_rows_of_drives()
     ensures mode_sense { decoded (commands Spec Drive) (0x1A ∷ 8 ∷ 0xBF ∷ 1 ∷ 2 ∷ 0 ∷ []) ≡ Ok (ModeSense true 2 0x3F 1 2) }
     ensures load_and_hold { decoded (commands Spec Drive) (0x1B ∷ 1 ∷ 0 ∷ 0 ∷ 0x0B ∷ 0 ∷ []) ≡ Ok (LoadUnload true false true) }
     ensures unload_at_end_of_tape { decoded (commands Spec Drive) (0x1B ∷ 0 ∷ 0 ∷ 0 ∷ 4 ∷ 0 ∷ []) ≡ Ok (LoadUnload false true false) }
-    ensures locate { decoded (commands Spec Drive) (0x2B ∷ 6 ∷ 9 ∷ 1 ∷ 2 ∷ 3 ∷ 4 ∷ 9 ∷ 9 ∷ 0 ∷ []) ≡ Ok (Locate true true 0x01020304) }
+    ensures locate { decoded (commands Spec Drive) (0x2B ∷ 6 ∷ 9 ∷ 1 ∷ 2 ∷ 3 ∷ 4 ∷ 9 ∷ 9 ∷ 0 ∷ []) ≡ Ok (Locate true true 0x01020304 9) }
     ensures no_naca_within_ten_bytes { decoded (commands Spec Drive) (0x2B ∷ 0 ∷ 0 ∷ 0 ∷ 0 ∷ 4 ∷ 0 ∷ 0 ∷ 0 ∷ 0 ∷ [])
-        ≡ Ok (Locate false false 1024) }
+        ≡ Ok (Locate false false 1024 0) }
     ensures read_position { decoded (commands Spec Drive) (0x34 ∷ 0xE0 ∷ 0 ∷ 0 ∷ 0 ∷ 0 ∷ 0 ∷ 0 ∷ 0 ∷ 0 ∷ []) ≡ Ok ReadPosition }
     ensures no_long_form { decoded (commands Spec Drive) (0x34 ∷ 6 ∷ 0 ∷ 0 ∷ 0 ∷ 0 ∷ 0 ∷ 0 ∷ 0 ∷ 4 ∷ []) ≡ Err ServiceAction }
     ensures naca { decoded (commands Spec Drive) (0x34 ∷ 0 ∷ 0 ∷ 0 ∷ 0 ∷ 0 ∷ 0 ∷ 0 ∷ 0 ∷ 4 ∷ []) ≡ Err Naca }
@@ -151,6 +151,8 @@ pub fn worked_rows_of_hosts()
     ensures mode_select_of_a_changer { decoded (commands Hosts Changer) (0x55 ∷ 0 ∷ 0 ∷ 0 ∷ 0 ∷ 0 ∷ 0 ∷ 0 ∷ 0 ∷ 0 ∷ []) ≡ Err Opcode }
     ensures none_of_them_by_default { decoded (commands Spec Drive) (0x4D ∷ 0 ∷ 0x2E ∷ 0 ∷ 0 ∷ 0 ∷ 0 ∷ 1 ∷ 0x44 ∷ 0 ∷ []) ≡ Err Opcode }
     ensures position_by_default { decoded (commands Spec Drive) (0x34 ∷ 1 ∷ 0 ∷ 0 ∷ 0 ∷ 0 ∷ 0 ∷ 0 ∷ 0 ∷ 0 ∷ []) ≡ Err ServiceAction }
+    ensures first_partition { decoded (commands Hosts Drive) (0x2B ∷ 2 ∷ 0 ∷ 0 ∷ 0 ∷ 0 ∷ 3 ∷ 9 ∷ 1 ∷ 0 ∷ []) ≡ Ok (Locate false true 3 1) }
+    ensures located { encoded (Locate false true 3 1) ≡ padded (0x2B ∷ 2 ∷ 0 ∷ 0 ∷ 0 ∷ 0 ∷ 3 ∷ 0 ∷ 1 ∷ []) }
     ensures written { encoded (Host (LogSense false false 1 0x2E 0 0 324)) ≡ padded (0x4D ∷ 0 ∷ 0x6E ∷ 0 ∷ 0 ∷ 0 ∷ 0 ∷ 1 ∷ 0x44 ∷ []) }
 {}
 

@@ -212,12 +212,14 @@ pub const PREVENT: usize = 4;
 
 pub const PREVENT_BITS: u8 = 0x03;
 
-// LOCATE(10), byte 1, and a place.
+// LOCATE(10), byte 1, and places.
 pub const BT_BIT: u8 = 2;
 
 pub const CP_BIT: u8 = 1;
 
 pub const LOGICAL_OBJECT_IDENTIFIER: usize = 3;
+
+pub const LOCATE_PARTITION: usize = 8;
 
 // Commands with service actions: the byte of the service action, and its bits.
 pub const SERVICE_ACTION: usize = 1;

@@ -87,6 +87,8 @@ pub enum Request {
         /// CP.
         change_partition: bool,
         logical_object_identifier: u32,
+        /// PARTITION, which counts with CP alone.
+        partition: u8,
     },
     /// READ POSITION with service action 00h, the short form.
     ReadPosition,

@@ -1,6 +1,6 @@
 //! What the CDBs of the stream commands say: those of drives alone (SSC-4).
 ghost use Rattle.std.specs.Prelude.{◌≡◌, ◌≤◌, length, IfSome};
-ghost use Rattle.scsi_cdb.specs.Bits.{bit, bits, three_bytes, four_bytes, signed_three_bytes};
+ghost use Rattle.scsi_cdb.specs.Bits.{bit, bits, byte, three_bytes, four_bytes, signed_three_bytes};
 ghost use Rattle.scsi_cdb.specs.Commands.{read_position};
 ghost use Rattle.scsi_cdb.specs.Encoding.{Fits};
 ghost use Rattle.scsi_cdb.specs.declared.request.Request.TheVariants.{Read, Write, WriteFilemarks, Space, LoadUnload, Locate};
@@ -69,13 +69,14 @@ pub fn load_unload_at(cdb: &[u8]) -> Request
 
 pub fn locate_at(cdb: &[u8]) -> Request
     requires { 10 ≤ length cdb.now }
-    ensures value { result ≡ Locate (bit cdb.now 1 2) (bit cdb.now 1 1) (four_bytes cdb.now 3) }
+    ensures value { result ≡ Locate (bit cdb.now 1 2) (bit cdb.now 1 1) (four_bytes cdb.now 3) (byte cdb.now 8) }
     ensures fits { Fits result }
 {
     Request::Locate {
         block_address_type: bit_at(cdb, FLAGS, BT_BIT),
         change_partition: bit_at(cdb, FLAGS, CP_BIT),
         logical_object_identifier: u32_at(cdb, LOGICAL_OBJECT_IDENTIFIER),
+        partition: byte_at(cdb, LOCATE_PARTITION),
     }
 }
 

@@ -13,7 +13,12 @@ use Rattle.tape_medium.specs.Elements.{first_data_transfer, first_import_export,
 use Rattle.tape_medium.specs.Elements.{moved, refusal, move_refusal, moves}
 use Rattle.tape_medium.specs.ElementStatus.{element_status}
 use Rattle.tape_medium.specs.Settling.{settled_to, unsettled_place, unsettled_elements}
+use Rattle.inquiry_data.specs.declared.library_number.LibraryNumber.{LibraryNumber}
+use Rattle.element_sources.specs.HostStatus.{host_status}
+use Rattle.element_sources.specs.Sources.{Sources}
+use Rattle.element_sources.specs.declared.status_request.StatusRequest.{StatusRequest}
 use Rattle.device_server.specs.Changer.{changer_mode_data}
+use Rattle.device_server.specs.HostChanger.{addresses_of}
 
 -- PLACES
 
@@ -69,6 +74,16 @@ same_mode_data e = let import_exports = length-map e.import_export unsettled_pla
 pub same_status : (e : Elements) (type_code start count : ℕ) (voltag : Bool)
     → element_status (unsettled_elements e) type_code start count voltag ≡ element_status e type_code start count voltag
 same_status e type_code start count voltag =
+    let import_exports = same_tags e.import_export in let slots = same_tags e.storage in rw (import_exports, slots) refl
+
+-- and of the hosts' profile
+pub same_addresses : (e : Elements) → addresses_of (unsettled_elements e) ≡ addresses_of e
+same_addresses e = let import_exports = length-map e.import_export unsettled_place in let slots =
+    length-map e.storage unsettled_place in rw (import_exports, slots) refl
+
+pub same_host_status : (e : Elements) (sources : Sources) (library : LibraryNumber) (asked : StatusRequest)
+    → host_status (unsettled_elements e) sources library asked ≡ host_status e sources library asked
+same_host_status e sources library asked =
     let import_exports = same_tags e.import_export in let slots = same_tags e.storage in rw (import_exports, slots) refl
 
 -- what an element has

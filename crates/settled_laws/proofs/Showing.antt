@@ -1,6 +1,10 @@
 -- What a device shows, and what it refuses by the fields of a command, is a matter of what it is but for what is settled.
 use Rattle.std.proofs.Common.{◌≡◌, ℕ, ◌&&◌, ◌||◌, not, Bool, is_none, Option, Some, None, Result, Ok, Err, refl, sym, ap, ◌∙◌, ◌==◌}
 use Rattle.std.proofs.Common.{if◌then◌else◌}
+use Rattle.scsi_cdb.specs.declared.kind.Kind.{Kind}
+use Rattle.scsi_cdb.specs.declared.profile.CommandSet.{CommandSet}
+use Rattle.scsi_cdb.specs.declared.profile.Profile.{Profile}
+use Rattle.scsi_cdb.specs.Kinds.{commands}
 use Rattle.scsi_cdb.specs.declared.request.Request.{Request}
 use Rattle.scsi_cdb.specs.declared.request.Request.TheVariants as request
 use Rattle.tape_medium.specs.declared.volume.Volume.{Volume}
@@ -10,9 +14,8 @@ use Rattle.tape_medium.specs.Elements.{Elements, Element, element_at, tag_in, ta
 use Rattle.tape_medium.specs.Settling.{unsettled_place, unsettled_elements}
 use Rattle.device_server.specs.Failures.{is_for_drives, is_data_transfer, leaves_to_drives}
 use Rattle.device_server.specs.Settled.{unsettled}
-use Rattle.device_server.specs.View.{DeviceView, Drive, Changer, kind_of, profile_of, drives_of, held_in}
-use Rattle.device_server.specs.Fields.{field_fault_of}
-use Rattle.device_server.proofs.SameDevice.{drives_profile, changers_profile}
+use Rattle.device_server.specs.View.{DeviceView, Drive, Changer, kind_of, profile_of, identity_of, commands_of, drives_of, held_in}
+use Rattle.device_server.specs.FieldFaults.{field_fault_of}
 use Rattle.settled_laws.specs.Alike.{ShowAlike, RefuseAlike}
 use Rattle.settled_laws.proofs.Maps.{same_element, same_tag_in, same_refusal}
 
@@ -20,15 +23,24 @@ use Rattle.settled_laws.proofs.Maps.{same_element, same_tag_in, same_refusal}
 
 pub kind_unsettled : (d : DeviceView) → kind_of (unsettled d) ≡ kind_of d
 kind_unsettled (Drive d) = refl
-kind_unsettled (Changer e) = refl
+kind_unsettled (Changer c) = refl
 
 profile_unsettled : (d : DeviceView) → profile_of (unsettled d) ≡ profile_of d
-profile_unsettled (Drive d) = drives_profile d _
-profile_unsettled (Changer e) = changers_profile e _
+unfolding profile_of
+profile_unsettled (Drive d) = refl
+profile_unsettled (Changer c) = refl
+
+identity_unsettled : (d : DeviceView) → identity_of (unsettled d) ≡ identity_of d
+identity_unsettled (Drive d) = refl
+identity_unsettled (Changer c) = refl
+
+pub commands_unsettled : (d : DeviceView) → commands_of (unsettled d) ≡ commands_of d
+commands_unsettled d =
+    ap (λ (p : Profile). commands p (kind_of (unsettled d))) (profile_unsettled d) ∙ ap (λ (k : Kind). commands (profile_of d) k) (kind_unsettled d)
 
 drives_unsettled : (d : DeviceView) → drives_of (unsettled d) ≡ drives_of d
 drives_unsettled (Drive d) = refl
-drives_unsettled (Changer e) = refl
+drives_unsettled (Changer c) = refl
 
 pub tag_unsettled : (bay : Option Volume) → tag_of (unsettled_place bay) ≡ tag_of bay
 tag_unsettled None = refl
@@ -41,9 +53,9 @@ tag_there (Err fault) = None
 held_unsettled : (d : DeviceView) (place : ℕ) → held_in (unsettled d) place ≡ held_in d place
 unfolding tag_there
 held_unsettled (Drive d) place = ap (λ (t : Option VolumeTag). if place == 0 then t else None) (tag_unsettled d.bay)
-held_unsettled (Changer e) place =
-    ap (λ (at : Element). tag_there (tag_in (unsettled_elements e) at)) (same_element e place)
-    ∙ ap tag_there (same_tag_in e (element_at e place))
+held_unsettled (Changer c) place =
+    ap (λ (at : Element). tag_there (tag_in (unsettled_elements c.elements) at)) (same_element c.elements place)
+    ∙ ap tag_there (same_tag_in c.elements (element_at c.elements place))
 
 for_drives : (e : Elements) (r : Request) → is_for_drives (unsettled_elements e) r ≡ is_for_drives e r
 for_drives e (request.MoveMedium transport source destination invert) =
@@ -57,13 +69,14 @@ for_drives e r = refl
 
 leaves_unsettled : (d : DeviceView) (r : Request) → leaves_to_drives (unsettled d) r ≡ leaves_to_drives d r
 leaves_unsettled (Drive d) r = refl
-leaves_unsettled (Changer e) r = for_drives e r
+leaves_unsettled (Changer c) r = for_drives c.elements r
 
 pub show_alike : ShowAlike
 show_alike one two same =
     record {
       kind = sym (kind_unsettled one) ∙ ap kind_of same ∙ kind_unsettled two;
       profile = sym (profile_unsettled one) ∙ ap profile_of same ∙ profile_unsettled two;
+      identity = sym (identity_unsettled one) ∙ ap identity_of same ∙ identity_unsettled two;
       drives = sym (drives_unsettled one) ∙ ap drives_of same ∙ drives_unsettled two;
       held = λ place. sym (held_unsettled one place) ∙ ap (λ (d : DeviceView). held_in d place) same ∙ held_unsettled two place;
       leaves = λ r. sym (leaves_unsettled one r) ∙ ap (λ (d : DeviceView). leaves_to_drives d r) same ∙ leaves_unsettled two r;
@@ -71,4 +84,4 @@ show_alike one two same =
 
 pub refuse_alike : RefuseAlike
 refuse_alike one two r bytes same =
-    ap (λ k. field_fault_of k r bytes) (sym (kind_unsettled one) ∙ ap kind_of same ∙ kind_unsettled two)
+    ap (λ (c : CommandSet). field_fault_of c r bytes) (sym (commands_unsettled one) ∙ ap commands_of same ∙ commands_unsettled two)

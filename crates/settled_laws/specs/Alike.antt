@@ -8,7 +8,7 @@ use Rattle.device_server.specs.declared.fault.TakeFault.{TakeFault}
 use Rattle.device_server.specs.declared.outcome.Outcome.{Outcome}
 use Rattle.device_server.specs.Failures.{leaves_to_drives}
 use Rattle.device_server.specs.Settled.{SameButSettled}
-use Rattle.device_server.specs.View.{DeviceView, kind_of, profile_of, drives_of, held_in, field_fault, performed, taken, put, marked, reset_of}
+use Rattle.device_server.specs.View.{DeviceView, kind_of, profile_of, identity_of, drives_of, held_in, field_fault, performed, taken, put, marked, journeyed, reset_of}
 
 -- the same volume, but for how many objects of its tape count as unchanged
 abbrev pub SameVolumeButSettled : (one two : Volume) → Type 0
@@ -32,10 +32,12 @@ ChangedAlike (Ok one) (Err fault) = ⊥
 ChangedAlike (Err fault) (Ok two) = ⊥
 ChangedAlike (Err one) (Err two) = one ≡ two
 
--- WHAT THEY SHOW is the same: the kind, the profile, the number of data transfer elements, each tag, and which moves are left to the drives
+-- WHAT THEY SHOW is the same: the kind, the profile, the identity, the number of data transfer elements, each tag, and which moves are left to
+-- the drives
 pub record ShownAlike (one two : DeviceView) : Type 0 where
   pub kind : kind_of one ≡ kind_of two
   pub profile : profile_of one ≡ profile_of two
+  pub identity : identity_of one ≡ identity_of two
   pub drives : drives_of one ≡ drives_of two
   pub held : (place : ℕ) → held_in one place ≡ held_in two place
   pub leaves : (request : Request) → leaves_to_drives one request ≡ leaves_to_drives two request
@@ -52,7 +54,7 @@ abbrev pub PerformAlike : Type 0
 PerformAlike = (one two : DeviceView) (request : Request) (bytes : List ℕ) → SameButSettled one two
     → StepAlike (performed one request bytes) (performed two request bytes)
 
--- A RESET, AND VOLUMES that go out and in, with the marks of them
+-- A RESET, AND VOLUMES that go out and in, with the marks of them, and their journeys
 abbrev pub ResetAlike : Type 0
 ResetAlike = (one two : DeviceView) → SameButSettled one two → SameButSettled (reset_of one) (reset_of two)
 
@@ -66,6 +68,10 @@ PutAlike = (one two : DeviceView) (place : ℕ) (v w : Volume) → SameButSettle
 abbrev pub MarkAlike : Type 0
 MarkAlike = (one two : DeviceView) (place : ℕ) (tag : Option VolumeTag) → SameButSettled one two
     → ChangedAlike (marked one place tag) (marked two place tag)
+
+abbrev pub JourneyAlike : Type 0
+JourneyAlike = (one two : DeviceView) (source destination : ℕ) → SameButSettled one two
+    → SameButSettled (journeyed one source destination) (journeyed two source destination)
 
 -- COMMANDS ONE AFTER ANOTHER, each with the data sent with it: the outcomes, and the device afterwards
 abbrev pub outcomes : DeviceView → List (Request × List ℕ) → List Outcome

@@ -73,6 +73,11 @@ data_for kind asked OneWithServiceAction =
 data_for kind asked Either =
     one_command asked.return_timeouts (command_with_action kind asked.operation_code asked.service_action)
 
+-- why it is refused, which its fields decide alone
+abbrev pub operation_codes_fault : Kind → ReportOperationCodes → Option Condition
+operation_codes_fault kind asked =
+    if is_refused asked.options (command_with_code kind asked.operation_code) then Some InvalidFieldInCdb else None
+
 -- the answer of a unit
 abbrev pub operation_codes : Kind → ReportOperationCodes → Result (List ℕ) Condition
 operation_codes kind asked =

@@ -2,7 +2,7 @@ ghost use Rattle.std.specs.Prelude.{◌≡◌, ◌≤◌, ◌++◌, [], if◌the
 ghost use Rattle.std.specs.List.{flat_map};
 ghost use Rattle.std.specs.Option.{option_copied};
 ghost use Rattle.supported_commands.specs.Commands.{has, commands_of};
-ghost use Rattle.supported_commands.specs.Answers.{is_refused, flags, descriptor, timeouts, timeouts_descriptor, all_commands, one_command, operation_codes};
+ghost use Rattle.supported_commands.specs.Answers.{is_refused, flags, descriptor, timeouts, timeouts_descriptor, all_commands, one_command, operation_codes, operation_codes_fault};
 
 use crate::command::Command;
 use crate::commands::{command_with_action, command_with_code, commands};
@@ -42,6 +42,18 @@ pub fn supported_operation_codes(
             let command = command_with_action(kind, asked.operation_code, asked.service_action);
             Ok(Ok(one_command(alloc, asked.return_timeouts, command)?))
         }
+    }
+}
+
+/// Why REPORT SUPPORTED OPERATION CODES is refused at a unit of the kind, which its fields decide alone.
+pub fn operation_codes_fault(kind: Kind, asked: &ReportOperationCodes) -> Option<Condition>
+    ensures { result ≡ operation_codes_fault kind asked.now }
+{
+    let first = command_with_code(kind, asked.operation_code);
+    if is_refused(asked.options, first) {
+        Some(Condition::InvalidFieldInCdb)
+    } else {
+        None
     }
 }
 

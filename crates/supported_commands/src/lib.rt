@@ -13,7 +13,7 @@ mod task_management;
 #[cfg(test)]
 mod tests;
 
-pub use answer::supported_operation_codes;
+pub use answer::{operation_codes_fault, supported_operation_codes};
 pub use laws::{
     commands_are_well_formed, listed_codes, listed_service_actions, worked_rows,
     worked_rows_of_all_commands, worked_rows_of_service_actions,

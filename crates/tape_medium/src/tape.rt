@@ -6,7 +6,7 @@ ghost use Rattle.tape_medium.specs.Kept.{HasLength, HaveLengths};
 ghost use Rattle.tape_medium.specs.Lent.{lent_object};
 ghost use Rattle.tape_medium.specs.Along.{code_of};
 ghost use Rattle.tape_medium.specs.Space.{spaced};
-ghost use Rattle.tape_medium.specs.Tape.{blank, settled, writes_block, writes_blocks, writes_marks, IsFaultOf, object_at, item_of, bytes_of, passed, moved_to, located, erased};
+ghost use Rattle.tape_medium.specs.Tape.{blank, behind, bytes_in, settled, writes_block, writes_blocks, writes_marks, IsFaultOf, object_at, item_of, bytes_of, passed, moved_to, located, erased};
 
 use crate::fault::TapeFault;
 use crate::item::Item;
@@ -89,6 +89,20 @@ impl Tape {
         ensures lengths { HaveLengths self.now.objects }
     {
         self.store.len() as u32
+    }
+
+    /// How many bytes the blocks have that lie before the position.
+    pub fn bytes_before_position(&self) -> u64
+        ensures { result ≡ bytes_in (behind self.now) }
+    {
+        self.store.bytes_before(self.position) as u64
+    }
+
+    /// How many bytes all blocks have.
+    pub fn byte_count(&self) -> u64
+        ensures { result ≡ bytes_in self.now.objects }
+    {
+        self.store.bytes_before(self.store.len()) as u64
     }
 
     /// How many bytes of blocks the tape takes.

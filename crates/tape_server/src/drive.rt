@@ -2,7 +2,7 @@
 
 ghost use Rattle.std.specs.Prelude.{◌≡◌, false, None, IfOk, OnErr};
 ghost use Rattle.scsi_cdb.specs.declared.kind.Kind.TheVariants as kind;
-ghost use Rattle.device_server.specs.Fields.{field_fault_of, mode_select_fault};
+ghost use Rattle.device_server.specs.Fields.{spec_field_fault, mode_select_fault};
 ghost use Rattle.device_server.specs.Mode.{block_length_after};
 ghost use Rattle.device_server.specs.Drive.{on_tape};
 ghost use Rattle.device_server.specs.Volumes.{is_move};
@@ -11,7 +11,8 @@ use crate::mode::{block_length_after, mode_data};
 use crate::positioning::{locate, position_data, space};
 use crate::reading::{read_block, read_blocks};
 use crate::writing::{erase, write_block, write_blocks, write_filemarks};
-use device_server::{BadPlace, DeviceServer, Outcome, Payload, PutFault, TakeFault};
+use device_server::{BadPlace, DeviceServer, HostDrive, Outcome, Payload, PutFault, TakeFault};
+use inquiry_data::UnitIdentity;
 use scsi_cdb::{Kind, Profile, Request};
 use scsi_sense::Condition;
 use std::alloc::{AllocError, Global};
@@ -19,14 +20,16 @@ use std::marker::Model;
 use tape_medium::{Tape, Volume, VolumeTag};
 
 /// The data of READ BLOCK LIMITS: no granularity, and blocks of 1 to 65,536 bytes (SSC-4, "READ BLOCK LIMITS command").
-const BLOCK_LIMITS: [u8; 6] = [0x00, 0x01, 0x00, 0x00, 0x00, 0x01];
+pub(crate) const BLOCK_LIMITS: [u8; 6] = [0x00, 0x01, 0x00, 0x00, 0x00, 0x01];
 
 /// A tape drive with one bay. A volume in it is loaded or not; the block length of the mode is 0 for blocks of any length.
 #[derive(Drop)]
 pub struct TapeDrive {
-    bay: Option<Volume>,
-    loaded: bool,
-    block_length: u32,
+    pub(crate) bay: Option<Volume>,
+    pub(crate) loaded: bool,
+    pub(crate) block_length: u32,
+    /// What it keeps besides, if it is of the hosts' profile.
+    pub(crate) hosts: Option<HostDrive>,
 }
 
 impl Model for TapeDrive {
@@ -34,15 +37,16 @@ impl Model for TapeDrive {
 
     ghost Value = { DriveView };
 
-    ghost view = { λ d. record { bay = d.bay; loaded = d.loaded; block_length = d.block_length } };
+    ghost view = { λ d. record { bay = d.bay; loaded = d.loaded; block_length = d.block_length; hosts = d.hosts } };
 }
 
 impl TapeDrive {
     ghost use Rattle.std.specs.Option.{option_map};
     ghost use Rattle.tape_medium.specs.Settling.{settled_to};
     ghost use Rattle.device_server.specs.Drive.{empty_drive, drive_step, in_bay, loads, selects, is_protected};
+    ghost use Rattle.device_server.specs.HostDrive.{empty_host_drive};
 
-    /// A drive with an empty bay.
+    /// A drive of the default profile with an empty bay.
     pub fn new() -> TapeDrive
         ensures { result ≡ empty_drive }
     {
@@ -50,17 +54,28 @@ impl TapeDrive {
             bay: None,
             loaded: false,
             block_length: 0,
+            hosts: None,
         }
     }
 
-    /// Carries out a command whose fields aren't refused.
+    /// A drive of the hosts' profile with an empty bay, which is this unit.
+    pub fn for_hosts(identity: UnitIdentity) -> TapeDrive
+        ensures { result ≡ empty_host_drive identity }
+    {
+        TapeDrive {
+            hosts: Some(HostDrive::new(identity)),
+            ..TapeDrive::new()
+        }
+    }
+
+    /// Carries out a command whose fields aren't refused, as a drive of the default profile.
     fn step(
         &mut self,
         alloc: Global,
         request: &Request,
         bytes: &[u8],
     ) -> Result<Outcome, AllocError>
-        requires { field_fault_of kind.Drive request.now bytes.now ≡ None }
+        requires { spec_field_fault kind.Drive request.now bytes.now ≡ None }
         ensures ok { IfOk result (λ outcome. drive_step self.old request.now bytes.now ≡ (self.new, outcome)) }
         ensures err { OnErr result (self.new ≡ self.old) }
         ensures want { OnErr result (is_move request.now ≡ false) }
@@ -141,7 +156,7 @@ impl TapeDrive {
     }
 
     /// Whether a protected volume is in the bay, loaded or not.
-    fn is_protected(&self) -> bool
+    pub(crate) fn is_protected(&self) -> bool
         ensures { result ≡ is_protected self.now.bay }
     {
         match &self.bay {
@@ -216,7 +231,17 @@ impl DeviceServer for TapeDrive {
 
     #[tactic(auto, unfolding(device_server::specs::View::profile_of))]
     fn profile(&self) -> Profile {
-        Profile::Spec
+        match self.hosts {
+            None => Profile::Spec,
+            Some(_) => Profile::Hosts,
+        }
+    }
+
+    fn identity(&self) -> Option<UnitIdentity> {
+        match self.hosts {
+            None => None,
+            Some(hosts) => Some(hosts.identity),
+        }
     }
 
     fn drives(&self) -> u16 {
@@ -237,13 +262,17 @@ impl DeviceServer for TapeDrive {
         false
     }
 
+    #[tactic(auto, unfolding(device_server::specs::View::profile_of))]
     fn perform(
         &mut self,
         alloc: Global,
         request: &Request,
         bytes: &[u8],
     ) -> Result<Outcome, AllocError> {
-        self.step(alloc, request, bytes)
+        match self.hosts {
+            None => self.step(alloc, request, bytes),
+            Some(hosts) => self.host_step(alloc, hosts, request, bytes),
+        }
     }
 
     fn take_volume(&mut self, place: u16) -> Result<Volume, TakeFault> {
@@ -277,8 +306,14 @@ impl DeviceServer for TapeDrive {
         Err(BadPlace)
     }
 
+    /// A drive keeps no sources.
+    fn note_journey(&mut self, _source: u16, _destination: u16) {}
+
     fn reset(&mut self) {
         self.block_length = 0;
+        if let Some(hosts) = &mut self.hosts {
+            hosts.compression = true;
+        }
         if let Some(volume) = &mut self.bay {
             volume.tape.rewind();
         }
@@ -286,7 +321,7 @@ impl DeviceServer for TapeDrive {
 }
 
 /// A command on the tape of a volume that is loaded.
-fn on_tape(
+pub(crate) fn on_tape(
     alloc: Global,
     tape: &mut Tape,
     protected: bool,

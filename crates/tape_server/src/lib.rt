@@ -2,6 +2,8 @@
 #![tactic(auto)]
 
 mod drive;
+mod host_drive;
+mod logs;
 mod mode;
 mod positioning;
 mod reading;

@@ -203,7 +203,7 @@ lost_marks u v n number false is = ap (λ (x : UnitView × Option ℕ). x.0.devi
 lost_marks u v n number true is = ap (λ (x : UnitView × Option ℕ). x.0.device) is.1
 
 same_marks : (a b : DeviceView) → b ≡ a → KeepsMarks a b
-same_marks a b is = subst (λ (x : DeviceView). KeepsMarks a x) (sym is) (record { device = record { kind = refl; profile = refl; drives = refl }; marks = refl })
+same_marks a b is = subst (λ (x : DeviceView). KeepsMarks a x) (sym is) (record { device = record { kind = refl; profile = refl; identity = refl; drives = refl }; marks = refl })
 
 pub loss_marks : (u v : UnitView) (n : Nexus) (r : Reply) → IsLost u n (v, r) → KeepsMarks u.device v.device
 loss_marks u v n r (inl busy) = same_marks u.device v.device (ap (λ (x : UnitView × Reply). x.0.device) busy.0)

@@ -16,7 +16,7 @@ use Rattle.device_server.specs.Marks.{marks, KeepsMarks}
 use Rattle.device_server.specs.View.{DeviceView, Drive, Changer, kind_of, profile_of, commands_of, drives_of, held_in, marked}
 use Rattle.device_server.specs.declared.fault.BadPlace.{BadPlace}
 use Rattle.device_server.proofs.SameDevice.{same_commands}
-use Rattle.device_server.proofs.MarkLemmas.{drives_give, drives_get, changers_give, changers_get, marks_one, each_is_marked}
+use Rattle.device_server.proofs.MarkLemmas.{drives_give, drives_get, changers_give, changers_get, marks_one, each_is_marked, journeys_keep_marks}
 use Rattle.judgement.specs.declared.reply.Reply.{Reply}
 use Rattle.logical_unit.specs.Move.{TwoDrives, noting, unloaded, loaded, passed, carried_by_one, carried_one, upward, downward, carried_two, route_at, MovesOne, MovesTwo, IsSameUnit}
 use Rattle.logical_unit.specs.Medium.{taken_out, put_in}
@@ -24,7 +24,7 @@ use Rattle.logical_unit.specs.Route.{drive_at, is_upward, named_by, named}
 use Rattle.logical_unit.specs.Step.{Executes, drained}
 use Rattle.logical_unit.specs.UnitView.{UnitView}
 use Rattle.logical_unit.specs.declared.route.Route.{Route}
-use Rattle.logical_unit.proofs.Halves.{is_out, is_in, is_unloaded, is_loaded, is_passed}
+use Rattle.logical_unit.proofs.Halves.{is_out, is_in, is_unloaded, is_loaded, is_passed, came}
 use Rattle.logical_unit.proofs.History.{executes_stays, executes_marks}
 use Rattle.logical_unit.proofs.Moved.{Became, one_became, two_became}
 use Rattle.logical_unit.proofs.NamedDrives.{HasRoute, AreNamed, has_route, drive_within, named_two}
@@ -86,7 +86,7 @@ agree_drive (m ∷ ms) (z ∷ ds) (suc i) d e there same = ap (λ b. same_mark m
 -- what a drive's marks tell of its bay
 pub bay_marked : (device : DeviceView) (m : Option VolumeTag) → kind_of device ≡ kind.Drive → marks device ≡ m ∷ [] → held_in device 0 ≡ m
 bay_marked (Drive d) m k h = cc
-bay_marked (Changer e) m k h = absurd cc
+bay_marked (Changer v) m k h = absurd cc
 
 pub bay_kept : (a b : DeviceView) → KeepsMarks a b → held_in b 0 ≡ held_in a 0
 bay_kept (Drive d) (Drive e) k = let m = k.marks in cc
@@ -249,9 +249,11 @@ module _ (c : UnitView) (ds : List UnitView) (o : IsOrdered c ds) (n : Nexus) (c
       ∙ agree_drive (marks c.device) ds k d e there (ap (λ (u : UnitView). held_in u.device 0) halted.drives_stay) ∙ o.marked
   one_marked k d v e there names (inr (inr moved)) =
       let q = has_route c.device cdb (suc k) [] names in
-      let is : carried_by_one c.device d q.route q.route.from q.route.to ≡ Ok (moved.device, e) = sym (ap (carried_one c.device d) q.is) ∙ moved.is in
+      let w = came q.route (carried_by_one c.device d q.route q.route.from q.route.to) moved.device e (sym (ap (carried_one c.device d) q.is) ∙ moved.is) in
       ap (λ (x : UnitView × Reply). agree (marks x.0.device) (slice_set ds k e)) moved.ends.unit
-      ∙ by_one_agrees c ds o q.route k d e moved.device q.route.from q.route.to q.decodes.from q.decodes.to q.names is
+      ∙ ap (λ (x : DeviceView). agree (marks x) (slice_set ds k e)) w.notes
+      ∙ ap (λ (ms : List (Option VolumeTag)). agree ms (slice_set ds k e)) (journeys_keep_marks w.mid q.route.source q.route.destination).marks
+      ∙ by_one_agrees c ds o q.route k d e w.mid q.route.from q.route.to q.decodes.from q.decodes.to q.names w.carries
 
   one_order : (k : ℕ) (d : UnitView) (ms : List UnitView) → slice_get ds k ≡ Some d → named (commands_of c.device) (drives_of c.device) cdb ≡ suc k ∷ [] → AtDrive (c ∷ ds) (suc k) (MovesOne c d n cdb bytes) (ms, r) → fault_of ms ≡ None
   one_order k d ms there names a =
@@ -296,8 +298,11 @@ module _ (c : UnitView) (ds : List UnitView) (o : IsOrdered c ds) (n : Nexus) (c
         ∙ agree_both es (ap (λ (x : TwoDrives). held_in x.low.device 0) halted.drives_stay) (ap (λ (x : TwoDrives). held_in x.high.device 0) halted.drives_stay)
     two_marked v es (inr (inr moved)) =
         let q = has_route c.device cdb (suc i) (suc j ∷ more) names in
+        let w = came q.route (by_way ds' q.route (is_upward q.route.from q.route.to)) moved.device es (sym (ap (carried_two c.device ds') q.is) ∙ moved.is) in
         ap (λ (x : UnitView × Reply). agree (marks x.0.device) (slice_set (slice_set ds i es.low) j es.high)) moved.ends.unit
-        ∙ by_ways i j ds' es moved.device (suc j ∷ more) q apart (named_two q.route.from q.route.to (suc i) (suc j) more q.names).1 (sym (ap (carried_two c.device ds') q.is) ∙ moved.is)
+        ∙ ap (λ (x : DeviceView). agree (marks x) (slice_set (slice_set ds i es.low) j es.high)) w.notes
+        ∙ ap (λ (ms : List (Option VolumeTag)). agree ms (slice_set (slice_set ds i es.low) j es.high)) (journeys_keep_marks w.mid q.route.source q.route.destination).marks
+        ∙ by_ways i j ds' es w.mid (suc j ∷ more) q apart (named_two q.route.from q.route.to (suc i) (suc j) more q.names).1 w.carries
 
     two_order : (ms : List UnitView) → AtDrives (c ∷ ds) (suc i) (suc j) (MovesTwo c ds' n cdb bytes) (ms, r) → fault_of ms ≡ None
     two_order ms a =
@@ -348,4 +353,4 @@ resets_order us ms at r (Some w) there step h =
 pub drains_order : (us ms : List UnitView) (at : ℕ) (entries : Option (List Record)) (o : Option UnitView) → slice_get us at ≡ o → DrainsAt us at o (ms, entries) → fault_of us ≡ None → fault_of ms ≡ None
 drains_order us ms at entries None there step h = ap (λ (x : List UnitView × Option (List Record)). fault_of x.0) step ∙ h
 drains_order us ms at entries (Some w) there step h =
-    changed us ms at w (drained w) there (ap (λ (x : List UnitView × Option (List Record)). x.0) step.0) refl (record { device = record { kind = refl; profile = refl; drives = refl }; marks = refl }) h
+    changed us ms at w (drained w) there (ap (λ (x : List UnitView × Option (List Record)). x.0) step.0) refl (record { device = record { kind = refl; profile = refl; identity = refl; drives = refl }; marks = refl }) h

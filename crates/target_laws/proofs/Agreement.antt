@@ -73,17 +73,18 @@ pub record IsAllowed (device : DeviceView) (r : Route) : Type 0 where
 pub left_allowed : (device : DeviceView) (transport : ℕ) (r : Route) (invert : Bool) (bytes : List ℕ) → kind_of device ≡ kind.Changer → r.from ≡ drive_at (drives_of device) r.source → r.to ≡ drive_at (drives_of device) r.destination
     → is_failure (performed device (MoveMedium transport r.source r.destination invert) bytes).1.sense ≡ true → IsAllowed device r
 left_allowed (Drive d) transport r invert bytes k from to left = absurd cc
-left_allowed (Changer e) transport r invert bytes k from to left =
+left_allowed (Changer v) transport r invert bytes k from to left =
+    let e : Elements = v.elements in
     let refused : Option MapFault = move_refusal e transport r.source r.destination in
     let names : Bool = is_data_transfer (element_at e r.source) || is_data_transfer (element_at e r.destination) in
-    let is : (not invert && (is_none refused && names)) ≡ true = sym (changers_fail_for_drives e (MoveMedium transport r.source r.destination invert) bytes) ∙ left in
+    let is : (not invert && (is_none refused && names)) ≡ true = sym (changers_fail_for_drives v (MoveMedium transport r.source r.destination invert) bytes) ∙ left in
     let free : refused ≡ None = none_is refused (both (is_none refused) names (both (not invert) (is_none refused && names) is).1).0 in
     let found = allowed (tag_held e (element_at e r.source)) (tag_held e (element_at e r.destination)) (transport_is (transport == 0) (tag_held e (element_at e r.source)) (tag_held e (element_at e r.destination)) free) in
     record {
       tag = found.0;
       full = held_is e (element_at e r.source) (Some found.0) found.1;
       empty = held_is e (element_at e r.destination) None found.2;
-      ways = has_ways e transport r free from to;
+      ways = has_ways v transport r free from to;
     }
 
 -- THE MARKS. The address of a drive is that of its data transfer element
@@ -110,7 +111,7 @@ drive_element e address k h =
 
 mark_at : (device : DeviceView) (address k : ℕ) → kind_of device ≡ kind.Changer → drive_at (drives_of device) address ≡ Some (suc k) → held_in device address ≡ slice_index_or (marks device) k None
 mark_at (Drive d) address k changer h = absurd cc
-mark_at (Changer e) address k changer h = ap (held_by e) (drive_element e address k h)
+mark_at (Changer v) address k changer h = ap (held_by v.elements) (drive_element v.elements address k h)
 
 agree_at : (ms : List (Option VolumeTag)) (ds : List UnitView) (k : ℕ) (d : UnitView) → agree ms ds ≡ true → slice_get ds k ≡ Some d → same_mark (slice_index_or ms k None) (held_in d.device 0) ≡ true
 agree_at ms [] k d h there = absurd cc

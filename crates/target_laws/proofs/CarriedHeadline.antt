@@ -9,7 +9,7 @@ use Rattle.pr_core.specs.State.{keys_after, power_on}
 use Rattle.pr_core.specs.declared.verdict.Verdict.TheVariants.{Allowed}
 use Rattle.tape_medium.specs.declared.volume.Volume.{Volume}
 use Rattle.tape_medium.specs.declared.volume.VolumeTag.{VolumeTag}
-use Rattle.device_server.specs.View.{DeviceView, commands_of, drives_of, held_in, profile_of}
+use Rattle.device_server.specs.View.{DeviceView, commands_of, drives_of, held_in, profile_of, journeyed}
 use Rattle.device_server.specs.declared.fault.TakeFault.{TakeFault}
 use Rattle.judgement.specs.Readings.{verdict_of}
 use Rattle.judgement.specs.declared.command.Command.{Command}
@@ -79,6 +79,10 @@ volume_goes = record {
   drive = record { changer = refl; good = refl; way = inward; asked = asks; end = inr refl; goes = goes };
 }
 
+-- the changer with the mark of a volume, and the way that it went
+abbrev noted : DeviceView → VolumeTag → DeviceView
+noted device tag = journeyed (noting device 0x100 (Some tag)) 0x400 0x100
+
 -- WHAT GOES INWARD: the first volume, into the empty drive; and what it leaves
 module _ (us : List UnitView) (device : DeviceView) (g : GoesInward us device) where
   gives : ◌≡◌ {A = Volume × DeviceView} (volume first_tag, device_by None None None) (g.volume, g.without)
@@ -98,7 +102,7 @@ module _ (us : List UnitView) (device : DeviceView) (g : GoesInward us device) w
   leaves =
       let without : g.without ≡ device_by None None None = sym (ap (λ (x : Volume × DeviceView). x.1) gives) in
       let with_it : g.with_it ≡ device_by None None None = g.takes.1 ∙ without in
-      g.marks ∙ ap (λ (v : Volume). noting g.with_it 0x100 (Some v.tag)) first ∙ ap (λ (x : DeviceView). noting x 0x100 (Some first_tag)) with_it
+      g.marks ∙ ap (λ (v : Volume). noted g.with_it v.tag) first ∙ ap (λ (x : DeviceView). noted x first_tag) with_it
 
 -- the two tags differ in their sixth byte
 abbrev sixth : VolumeTag → ℕ
@@ -160,6 +164,7 @@ allowed : verdict_of power_on a asked ≡ Allowed
 allowed = refl
 
 left_open : is_left (behind (changer_of before) a asked []).2.sense ≡ true
+unfolding profile_of
 left_open = refl
 
 with_drives : IsWithDrives at_first 0 (changer_of before) (move slot_1 drive_1)
@@ -200,6 +205,7 @@ allowed_out : verdict_of power_on b asked_out ≡ Allowed
 allowed_out = refl
 
 left_out : is_left (behind (changer_of after) b asked_out []).2.sense ≡ true
+unfolding profile_of
 left_out = refl
 
 names_out : named (commands_of after) (drives_of after) (move drive_1 slot_2) ≡ 1 ∷ []

@@ -8,13 +8,14 @@ use Rattle.tape_medium.specs.declared.volume.VolumeTag.{VolumeTag}
 use Rattle.tape_medium.specs.Volumes.{present}
 use Rattle.tape_medium.proofs.ElementLemmas.{element_at-within}
 use Rattle.tape_medium.proofs.VolumeLemmas.{volumes-take, volumes-put}
-use Rattle.device_server.specs.View.{DeviceView, Drive, Changer, kind_of, taken, put, marked}
+use Rattle.device_server.specs.View.{DeviceView, Drive, Changer, kind_of, taken, put, marked, journeyed}
 use Rattle.device_server.specs.Volumes.{volume_at, volumes_of, SameCartridge, SameAt}
 use Rattle.device_server.specs.declared.fault.BadPlace.{BadPlace}
 use Rattle.device_server.proofs.InAndOut.{drive_taken, drive_put, changer_taken, changer_put, marked_one}
 use Rattle.logical_unit.specs.Medium.{taken_out, put_in}
 use Rattle.logical_unit.specs.Move.{noting}
 use Rattle.logical_unit.specs.UnitView.{UnitView}
+use Rattle.logical_unit.specs.declared.route.Route.{Route}
 use Rattle.logical_unit.proofs.Halves.{is_out, is_in}
 use Rattle.target_laws.specs.Cartridges.{Cartridge, cartridge_of, cartridges_of}
 
@@ -45,6 +46,14 @@ noted_volumes device address tag (Err fault) h = refl
 
 pub noting_volumes : (device : DeviceView) (address : ℕ) (tag : Option VolumeTag) → cartridges_of (noting device address tag) ≡ cartridges_of device
 noting_volumes device address tag = ap (map cartridge_of) (noted_volumes device address tag (marked device address tag) refl)
+
+-- and so does a journey
+journeyed_volumes : (device : DeviceView) (source destination : ℕ) → cartridges_of (journeyed device source destination) ≡ cartridges_of device
+journeyed_volumes (Drive d) source destination = refl
+journeyed_volumes (Changer c) source destination = refl
+
+pub journey_volumes : (device mid : DeviceView) (r : Route) → device ≡ journeyed mid r.source r.destination → cartridges_of device ≡ cartridges_of mid
+journey_volumes device mid r notes = ap cartridges_of notes ∙ journeyed_volumes mid r.source r.destination
 
 -- what goes out of a drive, and comes in
 given_by_drive : (device after : DeviceView) (v : Volume) → kind_of device ≡ kind.Drive → taken device 0 ≡ Ok (v, after) → (cartridges_of device ≡ cartridge_of v ∷ []) × (cartridges_of after ≡ [])
@@ -81,11 +90,11 @@ changer_gives (Drive d) after place v k h = absurd cc
 changer_gives (Changer e) after place v k h =
     let out = changer_taken e place v after h in
     subst (λ (x : DeviceView). IsPermutation (cartridges_of (Changer e)) (cartridge_of v ∷ cartridges_of x)) out.left
-    (IsPermutation-map cartridge_of (volumes_of (Changer e)) (v ∷ _) (volumes-take e (element_at e place) v out.full))
+    (IsPermutation-map cartridge_of (volumes_of (Changer e)) (v ∷ _) (volumes-take e.elements (element_at e.elements place) v out.full))
 
 pub changer_gets : (c after : DeviceView) (place : ℕ) (v : Volume) → kind_of c ≡ kind.Changer → put c place v ≡ Ok after → IsPermutation (cartridge_of v ∷ cartridges_of c) (cartridges_of after)
 changer_gets (Drive d) after place v k h = absurd cc
 changer_gets (Changer e) after place v k h =
     let into = changer_put e place v after h in
     subst (λ (x : DeviceView). IsPermutation (cartridge_of v ∷ cartridges_of (Changer e)) (cartridges_of x)) into.left
-    (IsPermutation-map cartridge_of (v ∷ volumes_of (Changer e)) _ (volumes-put e (element_at e place) v (element_at-within e place) into.empty))
+    (IsPermutation-map cartridge_of (v ∷ volumes_of (Changer e)) _ (volumes-put e.elements (element_at e.elements place) v (element_at-within e.elements place) into.empty))

@@ -6,18 +6,18 @@ use Rattle.scsi_cdb.specs.declared.kind.Kind.TheVariants as kind
 use Rattle.scsi_nexus.specs.declared.nexus.Nexus.{Nexus}
 use Rattle.scsi_sense.specs.declared.condition.Condition.{Condition}
 use Rattle.tape_medium.specs.declared.volume.Volume.{Volume}
-use Rattle.device_server.specs.View.{DeviceView, Drive, Changer, kind_of, commands_of, reset_of}
+use Rattle.device_server.specs.View.{DeviceView, Drive, Changer, kind_of, commands_of, journeyed, reset_of}
 use Rattle.device_server.specs.Volumes.{volume_at, volumes_of, SameCartridge, SameAt}
 use Rattle.device_server.proofs.TapeLemmas.{same_volume, resets_keep_volumes}
 use Rattle.judgement.specs.declared.reply.Reply.{Reply}
 use Rattle.judgement.specs.Commands.{decoded_command}
 use Rattle.judgement.specs.History.{is_good}
-use Rattle.logical_unit.specs.Move.{TwoDrives, noting, unloaded, loaded, passed, carried_by_one, carried_one, upward, downward, carried_two, route_at}
+use Rattle.logical_unit.specs.Move.{TwoDrives, noting, unloaded, loaded, passed, carried_by_one, carried_one, upward, downward, carried_by_two, carried_two, route_at}
 use Rattle.logical_unit.specs.Route.{is_upward}
 use Rattle.logical_unit.specs.Step.{Executes}
 use Rattle.logical_unit.specs.UnitView.{UnitView}
 use Rattle.logical_unit.specs.declared.route.Route.{Route}
-use Rattle.logical_unit.proofs.Halves.{is_unloaded, is_loaded, is_passed}
+use Rattle.logical_unit.proofs.Halves.{is_unloaded, is_loaded, is_passed, came}
 use Rattle.logical_unit.proofs.History.{executes_stays}
 use Rattle.logical_unit.proofs.Moved.{Became, carried_to, one_became, two_became}
 use Rattle.logical_unit.proofs.NamedDrives.{has_route, named_two}
@@ -27,7 +27,7 @@ use Rattle.target_laws.specs.Cartridges.{Cartridge, cartridge_of, cartridges_of,
 use Rattle.target_core.specs.Faults.{fault_of}
 use Rattle.target_core.specs.Run.{LosesAt, ResetsAt, Steps}
 use Rattle.target_laws.specs.Volumes.{Way, way_of, writes, StaysSame}
-use Rattle.target_laws.proofs.CartridgeDevices.{drive_same, noting_volumes, drive_gives, drive_gets, changer_gives, changer_gets}
+use Rattle.target_laws.proofs.CartridgeDevices.{drive_same, noting_volumes, journey_volumes, drive_gives, drive_gets, changer_gives, changer_gets}
 use Rattle.target_core.proofs.Places.{same_some}
 use Rattle.target_laws.proofs.CommandWays.{Goes, goes}
 use Rattle.target_laws.proofs.Devices.{executed}
@@ -84,62 +84,62 @@ comes_over x c d rest after first second =
     IsPermutation-trans (c ++ d) (x ∷ (rest ++ d)) (rest ++ after) (IsPermutation-append_left d c (x ∷ rest) first)
     (IsPermutation-trans (x ∷ (rest ++ d)) (rest ++ x ∷ d) (rest ++ after) (IsPermutation-sym (rest ++ x ∷ d) (x ∷ (rest ++ d)) (IsPermutation-middle rest x d)) (IsPermutation-append_right rest (x ∷ d) after second))
 
--- A MOVE
-module _ (c v : UnitView) (ds : List UnitView) (r : Route) (changer : kind_of c.device ≡ kind.Changer) where
-  unloaded_stay : (k : ℕ) (d e : UnitView) → slice_get ds k ≡ Some d → unloaded c.device d r ≡ Ok (v.device, e) → IsPermutation (cartridges (c ∷ ds)) (cartridges (v ∷ slice_set ds k e))
+-- A MOVE. The changer is left as unnoted when the volume is down, and then notes the way
+module _ (c v : UnitView) (ds : List UnitView) (r : Route) (changer : kind_of c.device ≡ kind.Changer) (unnoted : DeviceView) (notes : v.device ≡ journeyed unnoted r.source r.destination) where
+  unloaded_stay : (k : ℕ) (d e : UnitView) → slice_get ds k ≡ Some d → unloaded c.device d r ≡ Ok (unnoted, e) → IsPermutation (cartridges (c ∷ ds)) (cartridges (v ∷ slice_set ds k e))
   unloaded_stay k d e there h =
-      let u = is_unloaded c.device d r v.device e h in
+      let u = is_unloaded c.device d r unnoted e h in
       let x = cartridge_of u.volume in
       let out = drive_gives d e u.volume u.gives.out in
-      let is : cartridges_of v.device ≡ cartridges_of u.mid = ap cartridges_of u.marks ∙ noting_volumes u.mid r.source None in
+      let is : cartridges_of v.device ≡ cartridges_of u.mid = journey_volumes v.device unnoted r notes ∙ ap cartridges_of u.marks ∙ noting_volumes u.mid r.source None in
       goes_over x (cartridges_of c.device) (cartridges ds) (cartridges_of v.device) (cartridges (slice_set ds k e))
       (subst (IsPermutation (x ∷ cartridges_of c.device)) (sym is) (changer_gets c.device u.mid r.destination u.volume changer u.puts)) (empties ds k d e x there out.0 out.1)
 
-  loaded_stay : (k : ℕ) (d e : UnitView) → slice_get ds k ≡ Some d → loaded c.device d r ≡ Ok (v.device, e) → IsPermutation (cartridges (c ∷ ds)) (cartridges (v ∷ slice_set ds k e))
+  loaded_stay : (k : ℕ) (d e : UnitView) → slice_get ds k ≡ Some d → loaded c.device d r ≡ Ok (unnoted, e) → IsPermutation (cartridges (c ∷ ds)) (cartridges (v ∷ slice_set ds k e))
   loaded_stay k d e there h =
-      let u = is_loaded c.device d r v.device e h in
+      let u = is_loaded c.device d r unnoted e h in
       let x = cartridge_of u.volume in
       let into = drive_gets d e u.volume u.comes in
-      let is : cartridges_of v.device ≡ cartridges_of u.mid = ap cartridges_of u.marks ∙ noting_volumes u.mid r.destination (Some u.volume.tag) in
+      let is : cartridges_of v.device ≡ cartridges_of u.mid = journey_volumes v.device unnoted r notes ∙ ap cartridges_of u.marks ∙ noting_volumes u.mid r.destination (Some u.volume.tag) in
       comes_over x (cartridges_of c.device) (cartridges ds) (cartridges_of v.device) (cartridges (slice_set ds k e))
       (subst (λ (cs : List Cartridge). IsPermutation (cartridges_of c.device) (x ∷ cs)) (sym is) (changer_gives c.device u.mid r.source u.volume changer u.takes)) (fills ds k d e x there into.0 into.1)
 
-  passed_stay : (i j : ℕ) (g t e f : UnitView) → i ≢ j → slice_get ds i ≡ Some g → slice_get ds j ≡ Some t → passed c.device g t r ≡ Ok (v.device, e, f) → IsPermutation (cartridges (c ∷ ds)) (cartridges (v ∷ slice_set (slice_set ds i e) j f))
+  passed_stay : (i j : ℕ) (g t e f : UnitView) → i ≢ j → slice_get ds i ≡ Some g → slice_get ds j ≡ Some t → passed c.device g t r ≡ Ok (unnoted, e, f) → IsPermutation (cartridges (c ∷ ds)) (cartridges (v ∷ slice_set (slice_set ds i e) j f))
   passed_stay i j g t e f apart giver taker h =
-      let u = is_passed c.device g t r v.device e f h in
+      let u = is_passed c.device g t r unnoted e f h in
       let x = cartridge_of u.volume in
       let out = drive_gives g e u.volume u.gives.out in
       let into = drive_gets t f u.volume u.comes in
       let mid = slice_set ds i e in
       let after = cartridges (slice_set mid j f) in
       let first = noting c.device r.source None in
-      let is : cartridges_of v.device ≡ cartridges_of c.device = ap cartridges_of u.marks ∙ noting_volumes first r.destination (Some u.volume.tag) ∙ noting_volumes c.device r.source None in
+      let is : cartridges_of v.device ≡ cartridges_of c.device = journey_volumes v.device unnoted r notes ∙ ap cartridges_of u.marks ∙ noting_volumes first r.destination (Some u.volume.tag) ∙ noting_volumes c.device r.source None in
       subst (λ (cs : List Cartridge). IsPermutation (cartridges (c ∷ ds)) (cs ++ after)) (sym is)
       (IsPermutation-append_right (cartridges_of c.device) (cartridges ds) after
       (IsPermutation-trans (cartridges ds) (x ∷ cartridges mid) after (empties ds i g e x giver out.0 out.1) (fills mid j t f x (get-set_other ds i j e apart ∙ taker) into.0 into.1)))
 
-  by_one : (from to : Option ℕ) (k : ℕ) (d e : UnitView) → slice_get ds k ≡ Some d → carried_by_one c.device d r from to ≡ Ok (v.device, e) → IsPermutation (cartridges (c ∷ ds)) (cartridges (v ∷ slice_set ds k e))
+  by_one : (from to : Option ℕ) (k : ℕ) (d e : UnitView) → slice_get ds k ≡ Some d → carried_by_one c.device d r from to ≡ Ok (unnoted, e) → IsPermutation (cartridges (c ∷ ds)) (cartridges (v ∷ slice_set ds k e))
   by_one None None k d e there h = absurd cc
   by_one (Some l) None k d e there h = unloaded_stay k d e there h
   by_one None (Some m) k d e there h = loaded_stay k d e there h
   by_one (Some l) (Some m) k d e there h = absurd cc
 
-  upward_stay : (i j : ℕ) (ds' es : TwoDrives) (p : Result (DeviceView × UnitView × UnitView) Condition) → i ≢ j → slice_get ds i ≡ Some ds'.low → slice_get ds j ≡ Some ds'.high → passed c.device ds'.low ds'.high r ≡ p → upward p ≡ Ok (v.device, es)
+  upward_stay : (i j : ℕ) (ds' es : TwoDrives) (p : Result (DeviceView × UnitView × UnitView) Condition) → i ≢ j → slice_get ds i ≡ Some ds'.low → slice_get ds j ≡ Some ds'.high → passed c.device ds'.low ds'.high r ≡ p → upward p ≡ Ok (unnoted, es)
       → IsPermutation (cartridges (c ∷ ds)) (cartridges (v ∷ slice_set (slice_set ds i es.low) j es.high))
   upward_stay i j ds' es (Ok it) apart low high h e =
-      let is : ◌≡◌ {A = DeviceView × TwoDrives} (it.0, record { low = it.1; high = it.2 }) (v.device, es) = cc in
+      let is : ◌≡◌ {A = DeviceView × TwoDrives} (it.0, record { low = it.1; high = it.2 }) (unnoted, es) = cc in
       passed_stay i j ds'.low ds'.high es.low es.high apart low high (h ∙ ap (λ (x : DeviceView × TwoDrives). three_ok x.0 x.1.low x.1.high) is)
   upward_stay i j ds' es (Err condition) apart low high h e = absurd cc
 
-  downward_stay : (i j : ℕ) (ds' es : TwoDrives) (p : Result (DeviceView × UnitView × UnitView) Condition) → i ≢ j → slice_get ds i ≡ Some ds'.low → slice_get ds j ≡ Some ds'.high → passed c.device ds'.high ds'.low r ≡ p → downward p ≡ Ok (v.device, es)
+  downward_stay : (i j : ℕ) (ds' es : TwoDrives) (p : Result (DeviceView × UnitView × UnitView) Condition) → i ≢ j → slice_get ds i ≡ Some ds'.low → slice_get ds j ≡ Some ds'.high → passed c.device ds'.high ds'.low r ≡ p → downward p ≡ Ok (unnoted, es)
       → IsPermutation (cartridges (c ∷ ds)) (cartridges (v ∷ slice_set (slice_set ds i es.low) j es.high))
   downward_stay i j ds' es (Ok it) apart low high h e =
-      let is : ◌≡◌ {A = DeviceView × TwoDrives} (it.0, record { low = it.2; high = it.1 }) (v.device, es) = cc in
+      let is : ◌≡◌ {A = DeviceView × TwoDrives} (it.0, record { low = it.2; high = it.1 }) (unnoted, es) = cc in
       subst (λ (xs : List UnitView). IsPermutation (cartridges (c ∷ ds)) (cartridges (v ∷ xs))) (sym (set_swap ds i j es.low es.high apart))
       (passed_stay j i ds'.high ds'.low es.high es.low (λ p. apart (sym p)) high low (h ∙ ap (λ (x : DeviceView × TwoDrives). three_ok x.0 x.1.high x.1.low) is))
   downward_stay i j ds' es (Err condition) apart low high h e = absurd cc
 
-  by_way : (i j : ℕ) (ds' es : TwoDrives) (up : Bool) → i ≢ j → slice_get ds i ≡ Some ds'.low → slice_get ds j ≡ Some ds'.high → cond up (upward (passed c.device ds'.low ds'.high r)) (downward (passed c.device ds'.high ds'.low r)) ≡ Ok (v.device, es)
+  by_way : (i j : ℕ) (ds' es : TwoDrives) (up : Bool) → i ≢ j → slice_get ds i ≡ Some ds'.low → slice_get ds j ≡ Some ds'.high → cond up (upward (passed c.device ds'.low ds'.high r)) (downward (passed c.device ds'.high ds'.low r)) ≡ Ok (unnoted, es)
       → IsPermutation (cartridges (c ∷ ds)) (cartridges (v ∷ slice_set (slice_set ds i es.low) j es.high))
   by_way i j ds' es true apart low high h = upward_stay i j ds' es (passed c.device ds'.low ds'.high r) apart low high refl h
   by_way i j ds' es false apart low high h = downward_stay i j ds' es (passed c.device ds'.high ds'.low r) apart low high refl h
@@ -194,7 +194,9 @@ module _ (c : UnitView) (ds : List UnitView) (o : IsOrdered c ds) (n : Nexus) (c
       let e = it.step.other in
       subst (λ (xs : List UnitView). IsPermutation (cartridges (c ∷ ds)) (cartridges xs)) (sym it.step.units)
       (move_stay v it.drive e (carried_one c.device it.drive (route_at c cdb)) (λ (x : UnitView). slice_set ds it.place x) (set-same ds it.place it.drive it.there)
-      (λ h. by_one c v ds q.route o.kind q.route.from q.route.to it.place it.drive e it.there (sym (ap (carried_one c.device it.drive) q.is) ∙ h))
+      (λ h.
+      let w = came q.route (carried_by_one c.device it.drive q.route q.route.from q.route.to) v.device e (sym (ap (carried_one c.device it.drive) q.is) ∙ h) in
+      by_one c v ds q.route o.kind w.mid w.notes q.route.from q.route.to it.place it.drive e it.there w.carries)
       (one_became c it.drive v e n cdb bytes r (suc it.place) [] it.names it.step.step))
   commands_stay ms at (inr (inr (inr (inr it)))) =
       let q = has_route c.device cdb (suc it.low) (suc it.high ∷ it.more) it.names in
@@ -204,7 +206,9 @@ module _ (c : UnitView) (ds : List UnitView) (o : IsOrdered c ds) (n : Nexus) (c
       subst (λ (xs : List UnitView). IsPermutation (cartridges (c ∷ ds)) (cartridges xs)) (sym it.step.units)
       (move_stay v it.drives es (carried_two c.device it.drives (route_at c cdb)) (λ (x : TwoDrives). slice_set (slice_set ds it.low x.low) it.high x.high)
       (ap (λ (xs : List UnitView). slice_set xs it.high it.drives.high) (set-same ds it.low it.drives.low it.low_there) ∙ set-same ds it.high it.drives.high it.high_there)
-      (λ h. by_way c v ds q.route o.kind it.low it.high it.drives es (is_upward q.route.from q.route.to) (λ p. absurd (omega (arith, p, less))) it.low_there it.high_there (sym (ap (carried_two c.device it.drives) q.is) ∙ h))
+      (λ h.
+      let w = came q.route (carried_by_two c.device it.drives q.route) v.device es (sym (ap (carried_two c.device it.drives) q.is) ∙ h) in
+      by_way c v ds q.route o.kind w.mid w.notes it.low it.high it.drives es (is_upward q.route.from q.route.to) (λ p. absurd (omega (arith, p, less))) it.low_there it.high_there w.carries)
       (two_became c v it.drives es n cdb bytes r (suc it.low) (suc it.high ∷ it.more) it.names it.step.step))
 
 -- A LOSS AND A RESET

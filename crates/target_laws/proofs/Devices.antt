@@ -27,11 +27,11 @@ use Rattle.permit_tables.specs.declared.pr_fault.PrFault.TheVariants.{InvalidFie
 use Rattle.audit_log.specs.declared.stage.Stage.TheVariants as stage
 use Rattle.audit_log.specs.declared.stage.Stage.TheVariants.{Fields}
 use Rattle.device_server.specs.Failures.{is_failure}
-use Rattle.device_server.specs.View.{DeviceView, kind_of, commands_of, field_fault, performed}
-use Rattle.device_server.proofs.FailureLemmas.{fault_fails, field_free}
+use Rattle.device_server.specs.View.{DeviceView, commands_of, field_fault, performed}
+use Rattle.device_server.proofs.FaultLemmas.{fault_fails, field_free}
 use Rattle.judgement.specs.Conditions.{condition_of_fault, condition_of_attention, condition_of_refusal}
 use Rattle.judgement.specs.Replies.{busy, good, check, data_reply}
-use Rattle.judgement.specs.UnitData.{inquiry_data, selected_luns}
+use Rattle.judgement.specs.UnitData.{inquiry_of, selected_luns}
 use Rattle.judgement.specs.declared.reply.Reply.{Reply}
 use Rattle.judgement.specs.Commands.{command_of, decoded_command}
 use Rattle.judgement.specs.declared.command.Command.{Command}
@@ -166,7 +166,7 @@ module _ (u : JudgedUnit) (n : Nexus) (bytes : List ℕ) where
       → DoesAs u (Ok (Device q)) bytes (elim o [ Some condition ↦ (u, at_stage Fields, check condition) | None ↦ cond (unloads q && is_prevented u.state) (u, at_stage stage.Device, check MediumRemovalPrevented) (steps u n (performed u.device q bytes)) ])) [
         | Some condition ↦ λ fields. inl (record { device = refl; refused = λ e. absurd cc; free = fields })
         | None ↦ λ fields. stepped_does q (unloads q && is_prevented u.state)
-      ] (field_free (kind_of u.device) q bytes)
+      ] (field_free (commands_of u.device) q bytes)
 
   carried : (at : Cell) (c : Command) → DoesAs u (Ok c) bytes (at_cell at (carried_out u n c bytes))
   carried at (ReserveOut p) =
@@ -175,7 +175,7 @@ module _ (u : JudgedUnit) (n : Nexus) (bytes : List ℕ) where
         | None ↦ record { device = refl; free = refl }
       ]
   carried at (ReserveIn a l) = record { device = refl; free = refl }
-  carried at (Inquiry e p l) = data_does at (inquiry_data (kind_of u.device) u.state.lun e p) l
+  carried at (Inquiry e p l) = data_does at (inquiry_of u.device u.state.lun n.port e p) l
   carried at (ReportLuns s l) = data_does at (selected_luns u.state.units s) l
   carried at (RequestSense true l) = record { device = refl; free = refl }
   carried at (RequestSense false l) = sensed_does l (pending_of u.state.slots n)

@@ -9,24 +9,24 @@ use Rattle.scsi_sense.specs.declared.condition.Condition.TheVariants.{InternalTa
 use Rattle.tape_medium.specs.declared.volume.Volume.{Volume}
 use Rattle.tape_medium.specs.declared.volume.VolumeTag.{VolumeTag}
 use Rattle.audit_log.specs.declared.act.Act.TheVariants.{MediumOut}
-use Rattle.device_server.specs.View.{DeviceView, kind_of, held_in, taken, put}
+use Rattle.device_server.specs.View.{DeviceView, kind_of, held_in, taken, put, journeyed}
 use Rattle.device_server.specs.Volumes.{volume_at, SameVolume, SameAt}
 use Rattle.device_server.specs.declared.fault.PutFault.{PutFault}
 use Rattle.device_server.specs.declared.fault.TakeFault.{TakeFault}
 use Rattle.device_server.proofs.PlaceLemmas.{takes_one, puts_one}
 use Rattle.judgement.specs.UnitState.{is_prevented}
 use Rattle.logical_unit.specs.Medium.{taken_as, taken_out, put_in}
-use Rattle.logical_unit.specs.Move.{TwoDrives, names_held, given, noting, unloaded, loaded, passed, carried_by_one, carried_one, upward, downward, carried_two}
+use Rattle.logical_unit.specs.Move.{TwoDrives, names_held, given, noting, unloaded, loaded, passed, carried_by_one, on_its_way, carried_one, upward, downward, carried_by_two, carried_two}
 use Rattle.logical_unit.specs.Route.{named_by}
 use Rattle.logical_unit.specs.Step.{with_event}
 use Rattle.logical_unit.specs.UnitView.{UnitView}
 use Rattle.logical_unit.specs.declared.medium_fault.MediumFault.{MediumFault}
 use Rattle.logical_unit.specs.declared.route.Route.{Route}
-use Rattle.logical_unit.proofs.Halves.{received_as, put_down, unloaded_by, taken_up, loaded_by, handed, passed_by, out_by, named_as, given_by, is_out, is_given, is_unloaded, is_loaded, is_passed}
+use Rattle.logical_unit.proofs.Halves.{received_as, put_down, unloaded_by, taken_up, loaded_by, handed, passed_by, out_by, named_as, given_by, is_out, is_given, is_unloaded, is_loaded, is_passed, came}
 use Rattle.logical_unit.proofs.NamedDrives.{named_one, named_two}
 use Rattle.target_core.proofs.Places.{same_some}
 use Rattle.target_laws.specs.Headline.{Goes, GoesBy, stop_at, stop_of}
-use Rattle.target_laws.proofs.VolumeCarries.{noting_still, drive_gives_out, drive_takes_in}
+use Rattle.target_laws.proofs.VolumeCarries.{noting_still, journey_still, drive_gives_out, drive_takes_in}
 
 -- a drive that stands at a number stands at an equal one
 at : (us : List UnitView) (a l : ℕ) (d : UnitView) → a ≡ l → slice_get us l ≡ Some d → slice_get us a ≡ Some d
@@ -42,42 +42,47 @@ three_err condition = Err condition
 abbrev by_way : DeviceView → TwoDrives → Route → Bool → Result (DeviceView × TwoDrives) Condition
 by_way c ds q up = cond up (upward (passed c ds.low ds.high q)) (downward (passed c ds.high ds.low q))
 
--- THE VOLUME GOES, by what the ends are
-module _ (mid next : List UnitView) (c device : DeviceView) (q : Route) where
-  abbrev pub By : (from to : Option ℕ) → Type 0
-  By from to = Goes mid next c device q.source from q.destination to
+-- with the way noted
+abbrev noted_way : Route → DeviceView → DeviceView
+noted_way q device = journeyed device q.source q.destination
 
-  unloaded_goes : (a l : ℕ) (d e : UnitView) → a ≡ l → slice_get mid l ≡ Some d → slice_get next l ≡ Some e → unloaded c d q ≡ Ok (device, e) → By (Some a) None
+-- THE VOLUME GOES, by what the ends are
+abbrev pub By : (mid next : List UnitView) → (before after : DeviceView) → Route → (from to : Option ℕ) → Type 0
+By mid next c device q from to = Goes mid next c device q.source from q.destination to
+
+-- the changer is left as unnoted when the volume is down, and then notes the way
+module _ (mid next : List UnitView) (c device : DeviceView) (q : Route) (unnoted : DeviceView) (notes : device ≡ journeyed unnoted q.source q.destination) where
+  unloaded_goes : (a l : ℕ) (d e : UnitView) → a ≡ l → slice_get mid l ≡ Some d → slice_get next l ≡ Some e → unloaded c d q ≡ Ok (unnoted, e) → By mid next c device q (Some a) None
   unloaded_goes a l d e is there stays h =
-      let u = is_unloaded c d q device e h in
+      let u = is_unloaded c d q unnoted e h in
       record {
         volume = u.volume;
         without = c;
         gives = (record { was = d; is = e; there = at mid a l d is there; stays = at next a l e is stays; gives = u.gives.out; marked = u.gives.names }, refl);
         with_it = u.mid;
         takes = u.puts;
-        marks = u.marks;
+        marks = notes ∙ ap (noted_way q) u.marks;
         others = λ address not_source not_destination.
-            ap (λ (x : DeviceView). volume_at x address) u.marks ∙ noting_still u.mid q.source None address ∙ (puts_one c u.mid q.destination u.volume u.puts).others address not_destination;
+            journey_still device unnoted q notes address ∙ ap (λ (x : DeviceView). volume_at x address) u.marks ∙ noting_still u.mid q.source None address ∙ (puts_one c u.mid q.destination u.volume u.puts).others address not_destination;
       }
 
-  loaded_goes : (b l : ℕ) (d e : UnitView) → b ≡ l → slice_get mid l ≡ Some d → slice_get next l ≡ Some e → loaded c d q ≡ Ok (device, e) → By None (Some b)
+  loaded_goes : (b l : ℕ) (d e : UnitView) → b ≡ l → slice_get mid l ≡ Some d → slice_get next l ≡ Some e → loaded c d q ≡ Ok (unnoted, e) → By mid next c device q None (Some b)
   loaded_goes b l d e is there stays h =
-      let u = is_loaded c d q device e h in
+      let u = is_loaded c d q unnoted e h in
       record {
         volume = u.volume;
         without = u.mid;
         gives = u.takes;
         with_it = u.mid;
         takes = (record { was = d; is = e; there = at mid b l d is there; stays = at next b l e is stays; takes = u.comes }, refl);
-        marks = u.marks;
+        marks = notes ∙ ap (noted_way q) u.marks;
         others = λ address not_source not_destination.
-            ap (λ (x : DeviceView). volume_at x address) u.marks ∙ noting_still u.mid q.destination (Some u.volume.tag) address ∙ (takes_one c u.mid q.source u.volume u.takes).others address not_source;
+            journey_still device unnoted q notes address ∙ ap (λ (x : DeviceView). volume_at x address) u.marks ∙ noting_still u.mid q.destination (Some u.volume.tag) address ∙ (takes_one c u.mid q.source u.volume u.takes).others address not_source;
       }
 
-  passed_goes : (a b l m : ℕ) (g t e f : UnitView) → a ≡ l → b ≡ m → slice_get mid l ≡ Some g → slice_get next l ≡ Some e → slice_get mid m ≡ Some t → slice_get next m ≡ Some f → passed c g t q ≡ Ok (device, e, f) → By (Some a) (Some b)
+  passed_goes : (a b l m : ℕ) (g t e f : UnitView) → a ≡ l → b ≡ m → slice_get mid l ≡ Some g → slice_get next l ≡ Some e → slice_get mid m ≡ Some t → slice_get next m ≡ Some f → passed c g t q ≡ Ok (unnoted, e, f) → By mid next c device q (Some a) (Some b)
   passed_goes a b l m g t e f from to giver gave taker took h =
-      let u = is_passed c g t q device e f h in
+      let u = is_passed c g t q unnoted e f h in
       let first = noting c q.source None in
       record {
         volume = u.volume;
@@ -85,48 +90,57 @@ module _ (mid next : List UnitView) (c device : DeviceView) (q : Route) where
         gives = (record { was = g; is = e; there = at mid a l g from giver; stays = at next a l e from gave; gives = u.gives.out; marked = u.gives.names }, refl);
         with_it = c;
         takes = (record { was = t; is = f; there = at mid b m t to taker; stays = at next b m f to took; takes = u.comes }, refl);
-        marks = u.marks;
+        marks = notes ∙ ap (noted_way q) u.marks;
         others = λ address not_source not_destination.
-            ap (λ (x : DeviceView). volume_at x address) u.marks ∙ noting_still first q.destination (Some u.volume.tag) address ∙ noting_still c q.source None address;
+            journey_still device unnoted q notes address ∙ ap (λ (x : DeviceView). volume_at x address) u.marks ∙ noting_still first q.destination (Some u.volume.tag) address ∙ noting_still c q.source None address;
       }
 
-  by_one : (l : ℕ) (d e : UnitView) (from to : Option ℕ) → named_by from to ≡ l ∷ [] → slice_get mid l ≡ Some d → slice_get next l ≡ Some e → carried_by_one c d q from to ≡ Ok (device, e) → By from to
+  by_one : (l : ℕ) (d e : UnitView) (from to : Option ℕ) → named_by from to ≡ l ∷ [] → slice_get mid l ≡ Some d → slice_get next l ≡ Some e → carried_by_one c d q from to ≡ Ok (unnoted, e) → By mid next c device q from to
   by_one l d e None None names there stays h = absurd cc
   by_one l d e (Some a) None names there stays h = let is : a ≡ l = cc in unloaded_goes a l d e is there stays h
   by_one l d e None (Some b) names there stays h = let is : b ≡ l = cc in loaded_goes b l d e is there stays h
   by_one l d e (Some a) (Some b) names there stays h = absurd cc
 
-  pub one_goes : (l : ℕ) (d e : UnitView) → named_by q.from q.to ≡ l ∷ [] → slice_get mid l ≡ Some d → slice_get next l ≡ Some e → carried_one c d (Some q) ≡ Ok (device, e) → GoesBy mid next c device q
-  one_goes l d e names there stays h = by_one l d e q.from q.to names there stays h
-
   -- the ends are drives, by their numbers
-  between : (a b : ℕ) → q.from ≡ Some a → q.to ≡ Some b → By (Some a) (Some b) → GoesBy mid next c device q
+  between : (a b : ℕ) → q.from ≡ Some a → q.to ≡ Some b → By mid next c device q (Some a) (Some b) → GoesBy mid next c device q
   between a b from to goes =
-      subst (λ (o : Option ℕ). By o q.to) (sym from) (subst (λ (o : Option ℕ). By (Some a) o) (sym to) goes)
+      subst (λ (o : Option ℕ). By mid next c device q o q.to) (sym from) (subst (λ (o : Option ℕ). By mid next c device q (Some a) o) (sym to) goes)
 
   upward_goes : (l m : ℕ) (ds es : TwoDrives) (o : Result (DeviceView × UnitView × UnitView) Condition) → slice_get mid l ≡ Some ds.low → slice_get next l ≡ Some es.low → slice_get mid m ≡ Some ds.high → slice_get next m ≡ Some es.high
-      → passed c ds.low ds.high q ≡ o → upward o ≡ Ok (device, es) → By (Some l) (Some m)
+      → passed c ds.low ds.high q ≡ o → upward o ≡ Ok (unnoted, es) → By mid next c device q (Some l) (Some m)
   upward_goes l m ds es (Ok it) low lower high higher h e =
-      let is : ◌≡◌ {A = DeviceView × TwoDrives} (it.0, record { low = it.1; high = it.2 }) (device, es) = cc in
-      let passes : passed c ds.low ds.high q ≡ Ok (device, es.low, es.high) = h ∙ ap (λ (x : DeviceView × TwoDrives). three_ok x.0 x.1.low x.1.high) is in
+      let is : ◌≡◌ {A = DeviceView × TwoDrives} (it.0, record { low = it.1; high = it.2 }) (unnoted, es) = cc in
+      let passes : passed c ds.low ds.high q ≡ Ok (unnoted, es.low, es.high) = h ∙ ap (λ (x : DeviceView × TwoDrives). three_ok x.0 x.1.low x.1.high) is in
       passed_goes l m l m ds.low ds.high es.low es.high refl refl low lower high higher passes
   upward_goes l m ds es (Err condition) low lower high higher h e = absurd cc
 
   downward_goes : (l m : ℕ) (ds es : TwoDrives) (o : Result (DeviceView × UnitView × UnitView) Condition) → slice_get mid l ≡ Some ds.low → slice_get next l ≡ Some es.low → slice_get mid m ≡ Some ds.high → slice_get next m ≡ Some es.high
-      → passed c ds.high ds.low q ≡ o → downward o ≡ Ok (device, es) → By (Some m) (Some l)
+      → passed c ds.high ds.low q ≡ o → downward o ≡ Ok (unnoted, es) → By mid next c device q (Some m) (Some l)
   downward_goes l m ds es (Ok it) low lower high higher h e =
-      let is : ◌≡◌ {A = DeviceView × TwoDrives} (it.0, record { low = it.2; high = it.1 }) (device, es) = cc in
-      let passes : passed c ds.high ds.low q ≡ Ok (device, es.high, es.low) = h ∙ ap (λ (x : DeviceView × TwoDrives). three_ok x.0 x.1.high x.1.low) is in
+      let is : ◌≡◌ {A = DeviceView × TwoDrives} (it.0, record { low = it.2; high = it.1 }) (unnoted, es) = cc in
+      let passes : passed c ds.high ds.low q ≡ Ok (unnoted, es.high, es.low) = h ∙ ap (λ (x : DeviceView × TwoDrives). three_ok x.0 x.1.high x.1.low) is in
       passed_goes m l m l ds.high ds.low es.high es.low refl refl high higher low lower passes
   downward_goes l m ds es (Err condition) low lower high higher h e = absurd cc
 
-  pub two_goes : (l m : ℕ) (more : List ℕ) (ds es : TwoDrives) → named_by q.from q.to ≡ l ∷ m ∷ more → slice_get mid l ≡ Some ds.low → slice_get next l ≡ Some es.low → slice_get mid m ≡ Some ds.high → slice_get next m ≡ Some es.high
-      → carried_two c ds (Some q) ≡ Ok (device, es) → GoesBy mid next c device q
-  two_goes l m more ds es names low lower high higher h =
+  by_two : (l m : ℕ) (more : List ℕ) (ds es : TwoDrives) → named_by q.from q.to ≡ l ∷ m ∷ more → slice_get mid l ≡ Some ds.low → slice_get next l ≡ Some es.low → slice_get mid m ≡ Some ds.high → slice_get next m ≡ Some es.high
+      → carried_by_two c ds q ≡ Ok (unnoted, es) → GoesBy mid next c device q
+  by_two l m more ds es names low lower high higher h =
       elim (named_two q.from q.to l m more names).1 [
         | inl up ↦ between l m up.from_is up.to_is (upward_goes l m ds es (passed c ds.low ds.high q) low lower high higher refl (sym (ap (by_way c ds q) up.way) ∙ h))
         | inr down ↦ between m l down.from_is down.to_is (downward_goes l m ds es (passed c ds.high ds.low q) low lower high higher refl (sym (ap (by_way c ds q) down.way) ∙ h))
       ]
+
+module _ (mid next : List UnitView) (c device : DeviceView) (q : Route) where
+  pub one_goes : (l : ℕ) (d e : UnitView) → named_by q.from q.to ≡ l ∷ [] → slice_get mid l ≡ Some d → slice_get next l ≡ Some e → carried_one c d (Some q) ≡ Ok (device, e) → GoesBy mid next c device q
+  one_goes l d e names there stays h =
+      let w = came q (carried_by_one c d q q.from q.to) device e h in
+      by_one mid next c device q w.mid w.notes l d e q.from q.to names there stays w.carries
+
+  pub two_goes : (l m : ℕ) (more : List ℕ) (ds es : TwoDrives) → named_by q.from q.to ≡ l ∷ m ∷ more → slice_get mid l ≡ Some ds.low → slice_get next l ≡ Some es.low → slice_get mid m ≡ Some ds.high → slice_get next m ≡ Some es.high
+      → carried_two c ds (Some q) ≡ Ok (device, es) → GoesBy mid next c device q
+  two_goes l m more ds es names low lower high higher h =
+      let w = came q (carried_by_two c ds q) device es h in
+      by_two mid next c device q w.mid w.notes l m more ds es names low lower high higher w.carries
 
 -- WHAT IS REPORTED of a drive that doesn't give its volume, and where the volume doesn't come down
 abbrev stopped_by : Kind → (prevented : Bool) → Condition
@@ -236,6 +250,11 @@ module _ (mid ms : List UnitView) (c device : DeviceView) (q : Route) where
       let into = drive_takes_in d two.is g.volume (subst (λ (u : UnitView). put_in u g.volume ≡ Ok two.is) (here b l two.was d to two.there there) two.takes) in
       subst (λ (o : Option Volume). SameAt SameVolume o (Some g.volume)) into.empty out.full
 
+-- what isn't carried isn't noted
+unnoted_stops : {A : Type 0} (q : Route) (carried : Result (DeviceView × A) Condition) (condition : Condition) → on_its_way q carried ≡ Err condition → carried ≡ Err condition
+unnoted_stops {A} q (Ok it) condition h = absurd cc
+unnoted_stops {A} q (Err reported) condition h = h
+
 -- NONE CAN GO, and that is reported
 abbrev pub Stops : (mid : List UnitView) (c : DeviceView) (q : Route) (condition : Condition) (from to : Option ℕ) → Type 0
 Stops mid c q condition from to = (condition ≡ stop_of mid from to) × ((ms : List UnitView) (device : DeviceView) → ¬ By mid ms c device q from to)
@@ -280,7 +299,7 @@ module _ (mid : List UnitView) (c : DeviceView) (q : Route) (condition : Conditi
       )
 
   pub one_stops : (l : ℕ) (d : UnitView) → named_by q.from q.to ≡ l ∷ [] → slice_get mid l ≡ Some d → carried_one c d (Some q) ≡ Err condition → Stops mid c q condition q.from q.to
-  one_stops l d names there h = stop_by l d q.from q.to names there h
+  one_stops l d names there h = stop_by l d q.from q.to names there (unnoted_stops q (carried_by_one c d q q.from q.to) condition h)
 
   ends_are : (a b : ℕ) → q.from ≡ Some a → q.to ≡ Some b → Stops mid c q condition (Some a) (Some b) → Stops mid c q condition q.from q.to
   ends_are a b from to stops =
@@ -305,9 +324,10 @@ module _ (mid : List UnitView) (c : DeviceView) (q : Route) (condition : Conditi
   pub two_stop : (l m : ℕ) (more : List ℕ) (ds : TwoDrives) → named_by q.from q.to ≡ l ∷ m ∷ more → slice_get mid l ≡ Some ds.low → slice_get mid m ≡ Some ds.high → carried_two c ds (Some q) ≡ Err condition → Stops mid c q condition q.from q.to
   two_stop l m more ds names low high h =
       let two = named_two q.from q.to l m more names in
+      let stopped : carried_by_two c ds q ≡ Err condition = unnoted_stops q (carried_by_two c ds q) condition h in
       elim two.1 [
-        | inl up ↦ ends_are l m up.from_is up.to_is (between_stops l m ds.low ds.high (apart l m two.0) low high (upward_stops (passed c ds.low ds.high q) (sym (ap (by_way c ds q) up.way) ∙ h)))
-        | inr down ↦ ends_are m l down.from_is down.to_is (between_stops m l ds.high ds.low (apart_down l m two.0) high low (downward_stops (passed c ds.high ds.low q) (sym (ap (by_way c ds q) down.way) ∙ h)))
+        | inl up ↦ ends_are l m up.from_is up.to_is (between_stops l m ds.low ds.high (apart l m two.0) low high (upward_stops (passed c ds.low ds.high q) (sym (ap (by_way c ds q) up.way) ∙ stopped)))
+        | inr down ↦ ends_are m l down.from_is down.to_is (between_stops m l ds.high ds.low (apart_down l m two.0) high low (downward_stops (passed c ds.high ds.low q) (sym (ap (by_way c ds q) down.way) ∙ stopped)))
       ]
 
 -- AN END OF THE WAY is each drive that is named

@@ -27,7 +27,7 @@ use Rattle.judgement.specs.declared.command.Command.{Command}
 use Rattle.judgement.specs.declared.command.Command.TheVariants.{Device}
 use Rattle.judgement.specs.JudgedUnit.{JudgedUnit}
 use Rattle.judgement.specs.declared.decision.Decision.{Decision}
-use Rattle.logical_unit.specs.Move.{TwoDrives, is_left, judged_at, route_at, passed, carried_by_one, carried_one, upward, downward, carried_two, ended, MovesOne, MovesTwo}
+use Rattle.logical_unit.specs.Move.{TwoDrives, is_left, judged_at, route_at, passed, carried_by_one, on_its_way, carried_one, upward, downward, carried_two, ended, MovesOne, MovesTwo}
 use Rattle.logical_unit.specs.Route.{drive_at, is_upward, named_by, named_in, named}
 use Rattle.logical_unit.specs.Step.{contacted_present, recorded, Executes, IsLost, IsReset}
 use Rattle.logical_unit.specs.UnitView.{UnitView}
@@ -104,7 +104,7 @@ alone e commands cdb q names reads = refl
 
 changer_steps : (device : DeviceView) (cdb : List ℕ) (q : Request) (bytes : List ℕ) → kind_of device ≡ kind.Changer → named (commands_of device) (drives_of device) cdb ≡ [] → decoded (commands_of device) cdb ≡ Ok q → is_failure (performed device q bytes).1.sense ≡ false
 changer_steps (Drive d) cdb q bytes k names reads = absurd cc
-changer_steps (Changer e) cdb q bytes k names reads = changers_fail_for_drives e q bytes ∙ alone e (commands_of (Changer e)) cdb q names reads
+changer_steps (Changer v) cdb q bytes k names reads = changers_fail_for_drives v q bytes ∙ alone v.elements (commands_of (Changer v)) cdb q names reads
 
 changer_free : (c v : UnitView) (n : Nexus) (cdb bytes : List ℕ) (r : Reply) → kind_of c.device ≡ kind.Changer → named (commands_of c.device) (drives_of c.device) cdb ≡ [] → Executes c n cdb bytes (v, r) → is_failure r.sense ≡ false
 changer_free c v n cdb bytes r k names step =
@@ -133,6 +133,11 @@ concluded_free : {A : Type 0} (c v : UnitView) (n : Nexus) (cdb bytes : List ℕ
     → (left ≡ true → carrying_fails carried ≡ false) → is_failure r.sense ≡ false
 concluded_free {A} c v n cdb bytes r drives after answer carried true left e free = ended_free c v n cdb bytes r drives after answer carried e (free refl)
 concluded_free {A} c v n cdb bytes r drives after answer carried false left e free = ap (λ (x : (UnitView × Reply) × A). is_failure x.0.1.sense) e ∙ left
+
+-- a way that is noted changes nothing of that
+noted_free : {A : Type 0} (q : Route) (carried : Result (DeviceView × A) Condition) → carrying_fails carried ≡ false → carrying_fails (on_its_way q carried) ≡ false
+noted_free {A} q (Ok it) h = refl
+noted_free {A} q (Err condition) h = h
 
 rising_same : (same less : Bool) (a b l : ℕ) → (a == b) ≡ same → cond same (a ∷ []) (cond less (a ∷ b ∷ []) (b ∷ a ∷ [])) ≡ l ∷ [] → a ≡ b
 rising_same true less a b l same h = exact_unsigned_eq a b same
@@ -164,7 +169,8 @@ module _ (c : UnitView) (ds : List UnitView) (o : IsOrdered c ds) (n : Nexus) (c
       let q = has_route c.device cdb (suc k) [] names in
       concluded_free c v n cdb bytes r d e (judged_at c n cdb bytes) (carried_one c.device d (route_at c cdb)) (is_left (judged_at c n cdb bytes).2.sense) refl moves.3
       (λ left. ap (λ (x : Option Route). carrying_fails (carried_one c.device d x)) q.is
-      ∙ by_one q.route (left_at c n cdb bytes (suc k) [] q left) k d q.route.from q.route.to there refl refl q.decodes.from q.decodes.to q.names)
+      ∙ noted_free q.route (carried_by_one c.device d q.route q.route.from q.route.to)
+      (by_one q.route (left_at c n cdb bytes (suc k) [] q left) k d q.route.from q.route.to there refl refl q.decodes.from q.decodes.to q.names))
 
   upward_free : (p : Result (DeviceView × UnitView × UnitView) Condition) → carrying_fails p ≡ false → carrying_fails (upward p) ≡ false
   upward_free (Ok it) h = refl
@@ -196,7 +202,8 @@ module _ (c : UnitView) (ds : List UnitView) (o : IsOrdered c ds) (n : Nexus) (c
       let q = has_route c.device cdb (suc i) (suc j ∷ more) names in
       concluded_free c v n cdb bytes r ds' es (judged_at c n cdb bytes) (carried_two c.device ds' (route_at c cdb)) (is_left (judged_at c n cdb bytes).2.sense) refl moves.3
       (λ left. ap (λ (x : Option Route). carrying_fails (carried_two c.device ds' x)) q.is
-      ∙ by_two q.route (left_at c n cdb bytes (suc i) (suc j ∷ more) q left) i j ds' low high q.decodes.from q.decodes.to (named_two q.route.from q.route.to (suc i) (suc j) more q.names).1)
+      ∙ noted_free q.route (by_way ds' q.route (is_upward q.route.from q.route.to))
+      (by_two q.route (left_at c n cdb bytes (suc i) (suc j ∷ more) q left) i j ds' low high q.decodes.from q.decodes.to (named_two q.route.from q.route.to (suc i) (suc j) more q.names).1))
 
 -- AN ABSENT UNIT
 either_answer : (b : Bool) (x y : Reply) → is_failure x.sense ≡ false → is_failure y.sense ≡ false → is_failure (cond b x y).sense ≡ false

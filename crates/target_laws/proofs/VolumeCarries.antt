@@ -5,16 +5,16 @@ use Rattle.std.specs.Prelude.{◌⊎◌, cond, slice_get, slice_set}
 use Rattle.scsi_sense.specs.declared.condition.Condition.{Condition}
 use Rattle.tape_medium.specs.declared.volume.Volume.{Volume}
 use Rattle.tape_medium.specs.declared.volume.VolumeTag.{VolumeTag}
-use Rattle.device_server.specs.View.{DeviceView, commands_of, drives_of, marked}
+use Rattle.device_server.specs.View.{DeviceView, commands_of, drives_of, marked, journeyed}
 use Rattle.device_server.specs.Volumes.{volume_at, SameVolume, SameAt, GoesOut, GoesIn}
 use Rattle.device_server.specs.declared.fault.BadPlace.{BadPlace}
-use Rattle.device_server.proofs.PlaceLemmas.{takes_one, puts_one, marks_move_nothing}
+use Rattle.device_server.proofs.PlaceLemmas.{takes_one, puts_one, marks_move_nothing, journeys_move_nothing}
 use Rattle.logical_unit.specs.Medium.{taken_out, put_in}
 use Rattle.logical_unit.specs.Move.{TwoDrives, noting, unloaded, loaded, passed, carried_by_one, carried_one, upward, downward, carried_two, route_at}
 use Rattle.logical_unit.specs.Route.{drive_at, is_upward, named_by, named}
 use Rattle.logical_unit.specs.UnitView.{UnitView}
 use Rattle.logical_unit.specs.declared.route.Route.{Route}
-use Rattle.logical_unit.proofs.Halves.{is_out, is_in, is_unloaded, is_loaded, is_passed}
+use Rattle.logical_unit.proofs.Halves.{is_out, is_in, is_unloaded, is_loaded, is_passed, came}
 use Rattle.logical_unit.proofs.NamedDrives.{some_of, AreNamed, has_route, drive_within, named_two}
 use Rattle.target_laws.specs.Volumes.{Way, IsCarried}
 use Rattle.target_core.proofs.History.{get-set_same, get-set_other}
@@ -31,6 +31,10 @@ noted_still device address tag (Err fault) h place = refl
 pub noting_still : (device : DeviceView) (address : ℕ) (tag : Option VolumeTag) (place : ℕ) → volume_at (noting device address tag) place ≡ volume_at device place
 noting_still device address tag place = noted_still device address tag (marked device address tag) refl place
 
+-- and so does a journey
+pub journey_still : (device mid : DeviceView) (r : Route) → device ≡ journeyed mid r.source r.destination → (place : ℕ) → volume_at device place ≡ volume_at mid place
+journey_still device mid r notes place = ap (λ (x : DeviceView). volume_at x place) notes ∙ journeys_move_nothing mid r.source r.destination place
+
 -- what goes out of a drive, and comes in
 pub drive_gives_out : (d e : UnitView) (v : Volume) → taken_out d ≡ Ok (v, e) → GoesOut d.device e.device 0 v
 drive_gives_out d e v h =
@@ -45,17 +49,18 @@ drive_takes_in d e v h =
 abbrev pub way : Route → Way
 way r = record { source = r.source; destination = r.destination }
 
-module _ (c v : UnitView) (ds : List UnitView) (r : Route) where
+-- the changer is left as unnoted when the volume is down, and then notes the way
+module _ (c v : UnitView) (ds : List UnitView) (r : Route) (unnoted : DeviceView) (notes : v.device ≡ journeyed unnoted r.source r.destination) where
   -- out of a drive into an element of the changer
-  pub unloaded_carries : (k : ℕ) (d e : UnitView) → slice_get ds k ≡ Some d → drive_at (length ds) r.source ≡ Some (suc k) → drive_at (length ds) r.destination ≡ None → unloaded c.device d r ≡ Ok (v.device, e)
+  pub unloaded_carries : (k : ℕ) (d e : UnitView) → slice_get ds k ≡ Some d → drive_at (length ds) r.source ≡ Some (suc k) → drive_at (length ds) r.destination ≡ None → unloaded c.device d r ≡ Ok (unnoted, e)
       → IsCarried (c ∷ ds) (v ∷ slice_set ds k e) (way r)
   unloaded_carries k d e there source destination h =
-      let u = is_unloaded c.device d r v.device e h in
+      let u = is_unloaded c.device d r unnoted e h in
       let out = drive_gives_out d e u.volume u.gives.out in
       let into = puts_one c.device u.mid r.destination u.volume u.puts in
       let es = slice_set ds k e in
       let size : length es ≡ length ds = length-set ds k e in
-      let still : (place : ℕ) → volume_at v.device place ≡ volume_at u.mid place = λ place. ap (λ (x : DeviceView). volume_at x place) u.marks ∙ noting_still u.mid r.source None place in
+      let still : (place : ℕ) → volume_at v.device place ≡ volume_at u.mid place = λ place. journey_still v.device unnoted r notes place ∙ ap (λ (x : DeviceView). volume_at x place) u.marks ∙ noting_still u.mid r.source None place in
       let was = held (volume_at d.device 0) u.volume out.full in
       record {
         volume = was.volume;
@@ -73,15 +78,15 @@ module _ (c v : UnitView) (ds : List UnitView) (r : Route) where
       }
 
   -- out of an element of the changer into a drive
-  pub loaded_carries : (k : ℕ) (d e : UnitView) → slice_get ds k ≡ Some d → drive_at (length ds) r.source ≡ None → drive_at (length ds) r.destination ≡ Some (suc k) → loaded c.device d r ≡ Ok (v.device, e)
+  pub loaded_carries : (k : ℕ) (d e : UnitView) → slice_get ds k ≡ Some d → drive_at (length ds) r.source ≡ None → drive_at (length ds) r.destination ≡ Some (suc k) → loaded c.device d r ≡ Ok (unnoted, e)
       → IsCarried (c ∷ ds) (v ∷ slice_set ds k e) (way r)
   loaded_carries k d e there source destination h =
-      let u = is_loaded c.device d r v.device e h in
+      let u = is_loaded c.device d r unnoted e h in
       let out = takes_one c.device u.mid r.source u.volume u.takes in
       let into = drive_takes_in d e u.volume u.comes in
       let es = slice_set ds k e in
       let size : length es ≡ length ds = length-set ds k e in
-      let still : (place : ℕ) → volume_at v.device place ≡ volume_at u.mid place = λ place. ap (λ (x : DeviceView). volume_at x place) u.marks ∙ noting_still u.mid r.destination (Some u.volume.tag) place in
+      let still : (place : ℕ) → volume_at v.device place ≡ volume_at u.mid place = λ place. journey_still v.device unnoted r notes place ∙ ap (λ (x : DeviceView). volume_at x place) u.marks ∙ noting_still u.mid r.destination (Some u.volume.tag) place in
       let was = held (volume_at c.device r.source) u.volume out.full in
       record {
         volume = was.volume;
@@ -99,10 +104,10 @@ module _ (c v : UnitView) (ds : List UnitView) (r : Route) where
       }
 
   -- out of a drive into another
-  pub passed_carries : (i j : ℕ) (g t e f : UnitView) → i ≢ j → slice_get ds i ≡ Some g → slice_get ds j ≡ Some t → drive_at (length ds) r.source ≡ Some (suc i) → drive_at (length ds) r.destination ≡ Some (suc j) → passed c.device g t r ≡ Ok (v.device, e, f)
+  pub passed_carries : (i j : ℕ) (g t e f : UnitView) → i ≢ j → slice_get ds i ≡ Some g → slice_get ds j ≡ Some t → drive_at (length ds) r.source ≡ Some (suc i) → drive_at (length ds) r.destination ≡ Some (suc j) → passed c.device g t r ≡ Ok (unnoted, e, f)
       → IsCarried (c ∷ ds) (v ∷ slice_set (slice_set ds i e) j f) (way r)
   passed_carries i j g t e f apart giver taker source destination h =
-      let u = is_passed c.device g t r v.device e f h in
+      let u = is_passed c.device g t r unnoted e f h in
       let out = drive_gives_out g e u.volume u.gives.out in
       let into = drive_takes_in t f u.volume u.comes in
       let mid = slice_set ds i e in
@@ -111,7 +116,7 @@ module _ (c v : UnitView) (ds : List UnitView) (r : Route) where
       let size : length es ≡ length ds = length-set mid j f ∙ one in
       let first = noting c.device r.source None in
       let still : (place : ℕ) → volume_at v.device place ≡ volume_at c.device place =
-      λ place. ap (λ (x : DeviceView). volume_at x place) u.marks ∙ noting_still first r.destination (Some u.volume.tag) place ∙ noting_still c.device r.source None place in
+      λ place. journey_still v.device unnoted r notes place ∙ ap (λ (x : DeviceView). volume_at x place) u.marks ∙ noting_still first r.destination (Some u.volume.tag) place ∙ noting_still c.device r.source None place in
       let taker_mid : slice_get mid j ≡ Some t = get-set_other ds i j e apart ∙ taker in
       let giver_left : slice_get es i ≡ Some e = get-set_other mid j i f (λ p. apart (sym p)) ∙ get-set_same ds i e g giver in
       let was = held (volume_at g.device 0) u.volume out.full in
@@ -144,50 +149,51 @@ module _ (c v : UnitView) (ds : List UnitView) (o : IsOrdered c ds) (cdb : List 
   among : (address : ℕ) (x : Option ℕ) → drive_at (drives_of c.device) address ≡ x → drive_at (length ds) address ≡ x
   among address x at = sym (ap (λ n. drive_at n address) (has_drives c ds o)) ∙ at
 
-  by_one : (q : Route) (k : ℕ) (d e : UnitView) (from to : Option ℕ) → slice_get ds k ≡ Some d → from ≡ drive_at (drives_of c.device) q.source → to ≡ drive_at (drives_of c.device) q.destination → named_by from to ≡ suc k ∷ []
-      → carried_by_one c.device d q from to ≡ Ok (v.device, e) → IsCarried (c ∷ ds) (v ∷ slice_set ds k e) (way q)
-  by_one q k d e None None there f t names h = absurd cc
-  by_one q k d e (Some l) None there f t names h =
+  by_one : (q : Route) (mid : DeviceView) → v.device ≡ journeyed mid q.source q.destination → (k : ℕ) (d e : UnitView) (from to : Option ℕ) → slice_get ds k ≡ Some d → from ≡ drive_at (drives_of c.device) q.source → to ≡ drive_at (drives_of c.device) q.destination → named_by from to ≡ suc k ∷ []
+      → carried_by_one c.device d q from to ≡ Ok (mid, e) → IsCarried (c ∷ ds) (v ∷ slice_set ds k e) (way q)
+  by_one q mid notes k d e None None there f t names h = absurd cc
+  by_one q mid notes k d e (Some l) None there f t names h =
       let is : l ≡ suc k = cc in
-      unloaded_carries c v ds q k d e there (among q.source (Some (suc k)) (sym f ∙ ap some_of is)) (among q.destination None (sym t)) h
-  by_one q k d e None (Some m) there f t names h =
+      unloaded_carries c v ds q mid notes k d e there (among q.source (Some (suc k)) (sym f ∙ ap some_of is)) (among q.destination None (sym t)) h
+  by_one q mid notes k d e None (Some m) there f t names h =
       let is : m ≡ suc k = cc in
-      loaded_carries c v ds q k d e there (among q.source None (sym f)) (among q.destination (Some (suc k)) (sym t ∙ ap some_of is)) h
-  by_one q k d e (Some l) (Some m) there f t names h = absurd cc
+      loaded_carries c v ds q mid notes k d e there (among q.source None (sym f)) (among q.destination (Some (suc k)) (sym t ∙ ap some_of is)) h
+  by_one q mid notes k d e (Some l) (Some m) there f t names h = absurd cc
 
   pub one_carries : (k : ℕ) (d e : UnitView) (names : named (commands_of c.device) (drives_of c.device) cdb ≡ suc k ∷ []) → slice_get ds k ≡ Some d → carried_one c.device d (route_at c cdb) ≡ Ok (v.device, e)
       → IsCarried (c ∷ ds) (v ∷ slice_set ds k e) (way (has_route c.device cdb (suc k) [] names).route)
   one_carries k d e names there h =
       let q = has_route c.device cdb (suc k) [] names in
-      by_one q.route k d e q.route.from q.route.to there q.decodes.from q.decodes.to q.names (sym (ap (carried_one c.device d) q.is) ∙ h)
+      let w = came q.route (carried_by_one c.device d q.route q.route.from q.route.to) v.device e (sym (ap (carried_one c.device d) q.is) ∙ h) in
+      by_one q.route w.mid w.notes k d e q.route.from q.route.to there q.decodes.from q.decodes.to q.names w.carries
 
-  upward_carries : (q : Route) (i j : ℕ) (ds' es : TwoDrives) (p : Result (DeviceView × UnitView × UnitView) Condition) → i ≢ j → slice_get ds i ≡ Some ds'.low → slice_get ds j ≡ Some ds'.high → drive_at (length ds) q.source ≡ Some (suc i) → drive_at (length ds) q.destination ≡ Some (suc j)
-      → passed c.device ds'.low ds'.high q ≡ p → upward p ≡ Ok (v.device, es) → IsCarried (c ∷ ds) (v ∷ slice_set (slice_set ds i es.low) j es.high) (way q)
-  upward_carries q i j ds' es (Ok it) apart low high source destination h e =
-      let is : ◌≡◌ {A = DeviceView × TwoDrives} (it.0, record { low = it.1; high = it.2 }) (v.device, es) = cc in
-      let passes : passed c.device ds'.low ds'.high q ≡ Ok (v.device, es.low, es.high) = h ∙ ap (λ (x : DeviceView × TwoDrives). three_ok x.0 x.1.low x.1.high) is in
-      passed_carries c v ds q i j ds'.low ds'.high es.low es.high apart low high source destination passes
-  upward_carries q i j ds' es (Err condition) apart low high source destination h e = absurd cc
+  upward_carries : (q : Route) (mid : DeviceView) → v.device ≡ journeyed mid q.source q.destination → (i j : ℕ) (ds' es : TwoDrives) (p : Result (DeviceView × UnitView × UnitView) Condition) → i ≢ j → slice_get ds i ≡ Some ds'.low → slice_get ds j ≡ Some ds'.high → drive_at (length ds) q.source ≡ Some (suc i) → drive_at (length ds) q.destination ≡ Some (suc j)
+      → passed c.device ds'.low ds'.high q ≡ p → upward p ≡ Ok (mid, es) → IsCarried (c ∷ ds) (v ∷ slice_set (slice_set ds i es.low) j es.high) (way q)
+  upward_carries q mid notes i j ds' es (Ok it) apart low high source destination h e =
+      let is : ◌≡◌ {A = DeviceView × TwoDrives} (it.0, record { low = it.1; high = it.2 }) (mid, es) = cc in
+      let passes : passed c.device ds'.low ds'.high q ≡ Ok (mid, es.low, es.high) = h ∙ ap (λ (x : DeviceView × TwoDrives). three_ok x.0 x.1.low x.1.high) is in
+      passed_carries c v ds q mid notes i j ds'.low ds'.high es.low es.high apart low high source destination passes
+  upward_carries q mid notes i j ds' es (Err condition) apart low high source destination h e = absurd cc
 
-  downward_carries : (q : Route) (i j : ℕ) (ds' es : TwoDrives) (p : Result (DeviceView × UnitView × UnitView) Condition) → i ≢ j → slice_get ds i ≡ Some ds'.low → slice_get ds j ≡ Some ds'.high → drive_at (length ds) q.source ≡ Some (suc j) → drive_at (length ds) q.destination ≡ Some (suc i)
-      → passed c.device ds'.high ds'.low q ≡ p → downward p ≡ Ok (v.device, es) → IsCarried (c ∷ ds) (v ∷ slice_set (slice_set ds i es.low) j es.high) (way q)
-  downward_carries q i j ds' es (Ok it) apart low high source destination h e =
-      let is : ◌≡◌ {A = DeviceView × TwoDrives} (it.0, record { low = it.2; high = it.1 }) (v.device, es) = cc in
-      let passes : passed c.device ds'.high ds'.low q ≡ Ok (v.device, es.high, es.low) = h ∙ ap (λ (x : DeviceView × TwoDrives). three_ok x.0 x.1.high x.1.low) is in
+  downward_carries : (q : Route) (mid : DeviceView) → v.device ≡ journeyed mid q.source q.destination → (i j : ℕ) (ds' es : TwoDrives) (p : Result (DeviceView × UnitView × UnitView) Condition) → i ≢ j → slice_get ds i ≡ Some ds'.low → slice_get ds j ≡ Some ds'.high → drive_at (length ds) q.source ≡ Some (suc j) → drive_at (length ds) q.destination ≡ Some (suc i)
+      → passed c.device ds'.high ds'.low q ≡ p → downward p ≡ Ok (mid, es) → IsCarried (c ∷ ds) (v ∷ slice_set (slice_set ds i es.low) j es.high) (way q)
+  downward_carries q mid notes i j ds' es (Ok it) apart low high source destination h e =
+      let is : ◌≡◌ {A = DeviceView × TwoDrives} (it.0, record { low = it.2; high = it.1 }) (mid, es) = cc in
+      let passes : passed c.device ds'.high ds'.low q ≡ Ok (mid, es.high, es.low) = h ∙ ap (λ (x : DeviceView × TwoDrives). three_ok x.0 x.1.high x.1.low) is in
       subst (λ (xs : List UnitView). IsCarried (c ∷ ds) (v ∷ xs) (way q)) (sym (set_swap ds i j es.low es.high apart))
-      (passed_carries c v ds q j i ds'.high ds'.low es.high es.low (λ p. apart (sym p)) high low source destination passes)
-  downward_carries q i j ds' es (Err condition) apart low high source destination h e = absurd cc
+      (passed_carries c v ds q mid notes j i ds'.high ds'.low es.high es.low (λ p. apart (sym p)) high low source destination passes)
+  downward_carries q mid notes i j ds' es (Err condition) apart low high source destination h e = absurd cc
 
   abbrev pub by_way : TwoDrives → Route → Bool → Result (DeviceView × TwoDrives) Condition
   by_way ds' q up = cond up (upward (passed c.device ds'.low ds'.high q)) (downward (passed c.device ds'.high ds'.low q))
 
-  by_two : (q : Route) (i j : ℕ) (ds' es : TwoDrives) → i ≢ j → slice_get ds i ≡ Some ds'.low → slice_get ds j ≡ Some ds'.high → q.from ≡ drive_at (drives_of c.device) q.source → q.to ≡ drive_at (drives_of c.device) q.destination
+  by_two : (q : Route) (mid : DeviceView) → v.device ≡ journeyed mid q.source q.destination → (i j : ℕ) (ds' es : TwoDrives) → i ≢ j → slice_get ds i ≡ Some ds'.low → slice_get ds j ≡ Some ds'.high → q.from ≡ drive_at (drives_of c.device) q.source → q.to ≡ drive_at (drives_of c.device) q.destination
       → AreNamed q.from q.to (suc i) (suc j) true ⊎ AreNamed q.from q.to (suc j) (suc i) false
-      → by_way ds' q (is_upward q.from q.to) ≡ Ok (v.device, es) → IsCarried (c ∷ ds) (v ∷ slice_set (slice_set ds i es.low) j es.high) (way q)
-  by_two q i j ds' es apart low high f t (inl up) h =
-      upward_carries q i j ds' es (passed c.device ds'.low ds'.high q) apart low high (among q.source (Some (suc i)) (sym f ∙ up.from_is)) (among q.destination (Some (suc j)) (sym t ∙ up.to_is)) refl (sym (ap (by_way ds' q) up.way) ∙ h)
-  by_two q i j ds' es apart low high f t (inr down) h =
-      downward_carries q i j ds' es (passed c.device ds'.high ds'.low q) apart low high (among q.source (Some (suc j)) (sym f ∙ down.from_is)) (among q.destination (Some (suc i)) (sym t ∙ down.to_is)) refl (sym (ap (by_way ds' q) down.way) ∙ h)
+      → by_way ds' q (is_upward q.from q.to) ≡ Ok (mid, es) → IsCarried (c ∷ ds) (v ∷ slice_set (slice_set ds i es.low) j es.high) (way q)
+  by_two q mid notes i j ds' es apart low high f t (inl up) h =
+      upward_carries q mid notes i j ds' es (passed c.device ds'.low ds'.high q) apart low high (among q.source (Some (suc i)) (sym f ∙ up.from_is)) (among q.destination (Some (suc j)) (sym t ∙ up.to_is)) refl (sym (ap (by_way ds' q) up.way) ∙ h)
+  by_two q mid notes i j ds' es apart low high f t (inr down) h =
+      downward_carries q mid notes i j ds' es (passed c.device ds'.high ds'.low q) apart low high (among q.source (Some (suc j)) (sym f ∙ down.from_is)) (among q.destination (Some (suc i)) (sym t ∙ down.to_is)) refl (sym (ap (by_way ds' q) down.way) ∙ h)
 
   pub two_carry : (i j : ℕ) (more : List ℕ) (ds' es : TwoDrives) (names : named (commands_of c.device) (drives_of c.device) cdb ≡ suc i ∷ suc j ∷ more) → slice_get ds i ≡ Some ds'.low → slice_get ds j ≡ Some ds'.high → carried_two c.device ds' (route_at c cdb) ≡ Ok (v.device, es)
       → IsCarried (c ∷ ds) (v ∷ slice_set (slice_set ds i es.low) j es.high) (way (has_route c.device cdb (suc i) (suc j ∷ more) names).route)
@@ -195,4 +201,5 @@ module _ (c v : UnitView) (ds : List UnitView) (o : IsOrdered c ds) (cdb : List 
       let q = has_route c.device cdb (suc i) (suc j ∷ more) names in
       let two = named_two q.route.from q.route.to (suc i) (suc j) more q.names in
       let less = two.0 in
-      by_two q.route i j ds' es (λ p. absurd (omega (arith, p, less))) low high q.decodes.from q.decodes.to two.1 (sym (ap (carried_two c.device ds') q.is) ∙ h)
+      let w = came q.route (by_way ds' q.route (is_upward q.route.from q.route.to)) v.device es (sym (ap (carried_two c.device ds') q.is) ∙ h) in
+      by_two q.route w.mid w.notes i j ds' es (λ p. absurd (omega (arith, p, less))) low high q.decodes.from q.decodes.to two.1 w.carries

@@ -45,8 +45,8 @@ volume_of e x = unwrap_or (elements.held_in e x) None
 
 no_volume : (device : DeviceView) (address l : ℕ) → kind_of device ≡ kind.Changer → drive_at (drives_of device) address ≡ Some l → volume_at device address ≡ None
 no_volume (Drive d) address l k h = absurd cc
-no_volume (Changer e) address zero k h = let w = drive_within (length e.data_transfer) address zero h in absurd (omega (arith, w.0))
-no_volume (Changer e) address (suc i) k h = ap (volume_of e) (drive_element e address i h)
+no_volume (Changer v) address zero k h = let w = drive_within (length v.elements.data_transfer) address zero h in absurd (omega (arith, w.0))
+no_volume (Changer v) address (suc i) k h = ap (volume_of v.elements) (drive_element v.elements address i h)
 
 own_by : (device : DeviceView) (address : ℕ) (v : Volume) (o : Option ℕ) → kind_of device ≡ kind.Changer → drive_at (drives_of device) address ≡ o → volume_at device address ≡ Some v → drive_at (drives_of device) address ≡ None
 own_by device address v (Some l) k at held = let none = no_volume device address l k at in absurd cc

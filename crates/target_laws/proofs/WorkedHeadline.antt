@@ -217,9 +217,15 @@ module _ (h : State) (mid next : List UnitView) (now left : UnitView) (n : Nexus
     | inr by ↦ absurd (alone mid now cdb by.with_drives)
   ]
 
+-- A's WRITE(6) writes its block
+written : (tag : VolumeTag) → objects_of (recorded (at_first tag) a (act_of_command writes) (behind (at_first tag) a writes block)).0.device ≡ Block block ∷ []
+unfolding profile_of
+written tag = refl
+
 unwritten : (tag : VolumeTag) → ¬ IsLetIn held (beside (at_first tag)) (beside (unit tag [] (entry_allowed ∷ []))) 1 (at_first tag) (unit tag [] (entry_allowed ∷ [])) a write block writes (good_with 1)
 unwritten tag it =
-    let e = ap (λ (x : Pair). objects_of x.0.device) (by_itself held (beside (at_first tag)) (beside (unit tag [] (entry_allowed ∷ []))) (at_first tag) (unit tag [] (entry_allowed ∷ [])) a write block writes (good_with 1) it) in
+    let e = ap (λ (x : Pair). objects_of x.0.device) (by_itself held (beside (at_first tag)) (beside (unit tag [] (entry_allowed ∷ []))) (at_first tag) (unit tag [] (entry_allowed ∷ [])) a write block writes (good_with 1) it)
+    ∙ written tag in
     cc
 
 pub not_decided : (tag : VolumeTag) → NotDecided tag

@@ -14,7 +14,7 @@ use Rattle.pr_core.specs.State.{State, cell}
 use Rattle.pr_core.specs.declared.verdict.Verdict.TheVariants.{Allowed}
 use Rattle.tape_medium.specs.declared.volume.Volume.{Volume}
 use Rattle.tape_medium.specs.declared.volume.VolumeTag.{VolumeTag}
-use Rattle.device_server.specs.View.{DeviceView, kind_of, commands_of, drives_of, held_in, taken, put}
+use Rattle.device_server.specs.View.{DeviceView, kind_of, commands_of, drives_of, held_in, taken, put, journeyed}
 use Rattle.device_server.specs.Volumes.{volume_at}
 use Rattle.judgement.specs.declared.command.Command.{Command}
 use Rattle.judgement.specs.declared.command.Command.TheVariants.{ReserveIn}
@@ -100,14 +100,15 @@ abbrev pub noted_at : (address : ℕ) → (drive : Option ℕ) → Option Volume
 noted_at address (Some drive) tag device = noting device address tag
 noted_at address None tag device = device
 
--- one volume goes from a source to a destination, with the marks at the elements of drives
+-- one volume goes from a source to a destination, with the marks at the elements of drives, and the changer notes its way, by which one of the
+-- hosts' profile knows where it came from
 pub record Goes (mid next : List UnitView) (before after : DeviceView) (source : ℕ) (from : Option ℕ) (destination : ℕ) (to : Option ℕ) : Type 0 where
   pub volume : Volume
   pub without : DeviceView
   pub gives : Gives mid next before without source from volume
   pub with_it : DeviceView
   pub takes : Takes mid next without with_it destination to volume
-  pub marks : after ≡ noted_at destination to (Some volume.tag) (noted_at source from None with_it)
+  pub marks : after ≡ journeyed (noted_at destination to (Some volume.tag) (noted_at source from None with_it)) source destination
   -- and all other elements of the changer hold what they held
   pub others : (address : ℕ) → address ≢ source → address ≢ destination → volume_at after address ≡ volume_at before address
 

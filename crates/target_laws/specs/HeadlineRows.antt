@@ -10,6 +10,7 @@ use Rattle.permit_tables.specs.declared.res_type.ResType.TheVariants.{Ea}
 use Rattle.permit_tables.specs.declared.role.Role.{Role}
 use Rattle.permit_tables.specs.declared.role.Role.TheVariants.{Holder, Other}
 use Rattle.scsi_cdb.specs.declared.action.InServiceAction.TheVariants.{ReadReservation}
+use Rattle.scsi_cdb.specs.declared.profile.Profile.TheVariants.{Spec}
 use Rattle.scsi_cdb.specs.declared.request.Request.TheVariants as request
 use Rattle.scsi_nexus.specs.declared.nexus.Nexus.{Nexus}
 use Rattle.scsi_sense.specs.declared.status.Status.TheVariants.{Good, ReservationConflict}
@@ -42,10 +43,11 @@ device_with tag objects = Drive (record {
   bay = Some (record { tag = tag; protected = false; tape = record { objects = objects; position = length objects; capacity = 1000; unchanged = 0 } });
   loaded = true;
   block_length = 0;
+  hosts = None;
 })
 
 abbrev pub state : UnitStateView
-state = record { lun = 1; units = 2; reservations = held; slots = (a, []) ∷ (b, []) ∷ []; preventers = [] }
+state = record { lun = 1; units = 2; profile = Spec; reservations = held; slots = (a, []) ∷ (b, []) ∷ []; preventers = [] }
 
 abbrev pub unit : VolumeTag → List Object → List Record → UnitView
 unit tag objects records = record { device = device_with tag objects; state = state; base = record { state = state; last = 0 }; records = records }

@@ -25,6 +25,7 @@ use Rattle.pr_core.specs.State.{State}
 use Rattle.permit_tables.specs.declared.key_rule.KeyRule.TheVariants.{K1}
 use Rattle.pr_core.specs.declared.verdict.Verdict.TheVariants.{Allowed, Denied, Rule}
 use Rattle.device_server.specs.Drive.{empty_drive}
+use Rattle.device_server.specs.HostChanger.{spec_changer}
 use Rattle.device_server.specs.View.{Drive, Changer}
 use Rattle.judgement.specs.declared.command.Command.TheVariants as command
 use Rattle.judgement.specs.declared.reply.Reply.{Reply}
@@ -99,10 +100,10 @@ sent =
 
 -- a changer, and a drive with an empty tape, at power on
 abbrev pub changer : UnitView
-changer = made (Changer (empty_elements 1 8 0)) 0 2 0
+changer = made (Changer (spec_changer (empty_elements 1 8 0))) 0 2 0
 
 abbrev pub drive : VolumeTag → UnitView
-drive tag = made (Drive (record { bay = Some (record { tag = tag; protected = false; tape = blank 1000 }); loaded = true; block_length = 0 })) 1 2 0
+drive tag = made (Drive (record { bay = Some (record { tag = tag; protected = false; tape = blank 1000 }); loaded = true; block_length = 0; hosts = None })) 1 2 0
 
 abbrev pub units : VolumeTag → List UnitView
 units tag = changer ∷ drive tag ∷ []
@@ -237,7 +238,7 @@ pub record LossesAndResets (tag : VolumeTag) : Type 0 where
 
 -- units that make a target, and why others don't
 abbrev pub changer_with : (drives lun count : ℕ) → UnitView
-changer_with drives lun count = made (Changer (empty_elements drives 8 0)) lun count 0
+changer_with drives lun count = made (Changer (spec_changer (empty_elements drives 8 0))) lun count 0
 
 abbrev pub changer_of : (lun count : ℕ) → UnitView
 changer_of lun count = changer_with 1 lun count
@@ -247,7 +248,7 @@ drive_of lun count = made (Drive empty_drive) lun count 0
 
 -- a changer whose data transfer element has a mark, and a drive with a volume
 abbrev pub changer_marked : VolumeTag → UnitView
-changer_marked tag = made (Changer (record (empty_elements 1 8 0) { data_transfer = Some tag ∷ [] })) 0 2 0
+changer_marked tag = made (Changer (spec_changer (record (empty_elements 1 8 0) { data_transfer = Some tag ∷ [] }))) 0 2 0
 
 abbrev pub drive_with : VolumeTag → UnitView
 drive_with tag = made (Drive (record empty_drive { bay = Some (record { tag = tag; protected = false; tape = blank 1000 }); loaded = true })) 1 2 0

@@ -3,6 +3,7 @@ use Rattle.std.proofs.Common.{◌≡◌, ◌≢◌, zero, suc, List, [], ◌∷�
 use Rattle.std.specs.Prelude.{◌↔◌, ◌⊎◌}
 use Rattle.std.specs.List.{All}
 use Rattle.scsi_cdb.specs.declared.classes.Class.{Class}
+use Rattle.scsi_cdb.specs.declared.profile.Profile.{Profile}
 use Rattle.scsi_cdb.specs.Classes.{class_of_action}
 use Rattle.scsi_nexus.specs.declared.nexus.Nexus.{Nexus}
 use Rattle.scsi_sense.specs.declared.status.Status.TheVariants.{ReservationConflict}
@@ -47,11 +48,11 @@ whole_no_conflict : (e : Record) → IsWhole e.status e.sense → e.status ≢ R
 whole_no_conflict e (inl a) h = let is = a.0 in cc
 whole_no_conflict e (inr a) h = let is = a.0 in cc
 
-own : (e : Record) (at : Cell) → SaysItsOwn e at → AtTheCheck e
-own e at s = (λ h. absurd (whole_no_conflict e s.whole h), λ h. absurd (own_stage e s.stage h))
+own : (profile : Profile) (e : Record) (at : Cell) → SaysItsOwn profile e at → AtTheCheck e
+own profile e at s = (λ h. absurd (whole_no_conflict e s.whole h), λ h. absurd (own_stage e s.stage h))
 
 carried : (k : UnitStateView) (n : Nexus) (list : Option OutParams) (class : Class) (e : Record) → IsCarriedOut k n list class e → AtTheCheck e
-carried k n None class e = own e (cell k.reservations n class)
+carried k n None class e = own k.profile e (cell k.reservations n class)
 carried k n (Some params) class e =
     let at = cell k.reservations n class in
     elim (refusal k.reservations n params) as (λ (o : Option PrFault). (elim o [ Some fault ↦ Says e (let_in at Fields) (check (condition_of_refusal fault)) | None ↦ Says e (let_in at Device) (good []) ]) → AtTheCheck e) [

@@ -66,7 +66,7 @@ drive_barred tag = with_records (drive_held tag) (barred Other ∷ [])
 
 -- the drive with what A and B wrote
 abbrev pub written : VolumeTag → DeviceView
-written tag = Drive (record { bay = Some (record (volume tag) { tape = record { objects = Block (7 ∷ 8 ∷ []) ∷ []; position = 1; capacity = 1000; unchanged = 0 } }); loaded = true; block_length = 0 })
+written tag = Drive (record { bay = Some (record (volume tag) { tape = record { objects = Block (7 ∷ 8 ∷ []) ∷ []; position = 1; capacity = 1000; unchanged = 0 } }); loaded = true; block_length = 0; hosts = None })
 
 -- it ends in conflict with nothing changed and one record, in B's cell
 pub record BarredWrite (tag : VolumeTag) : Type 0 where

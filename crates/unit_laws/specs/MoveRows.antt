@@ -19,6 +19,7 @@ use Rattle.tape_medium.specs.declared.volume.VolumeTag.{VolumeTag}
 use Rattle.audit_log.specs.declared.act.Act.{Act}
 use Rattle.audit_log.specs.declared.act.Act.TheVariants as act
 use Rattle.audit_log.specs.declared.stage.Stage.TheVariants.{Device, ReservationCheck}
+use Rattle.device_server.specs.HostChanger.{spec_changer}
 use Rattle.device_server.specs.View.{DeviceView, Changer}
 use Rattle.judgement.specs.declared.reply.Reply.{Reply}
 use Rattle.judgement.specs.declared.command.Command.TheVariants.{Prevent}
@@ -68,11 +69,11 @@ pub record NamedDrives : Type 0 where
 
 -- a changer by the marks at its drives and what its storage elements hold
 abbrev pub library : List (Option VolumeTag) → (first second : Option Volume) → DeviceView
-library marks first second = Changer (record { data_transfer = marks; import_export = []; storage = first ∷ second ∷ [] })
+library marks first second = Changer (spec_changer (record { data_transfer = marks; import_export = []; storage = first ∷ second ∷ [] }))
 
 -- what a unit keeps at which nobody is registered, and nothing waits for A and B
 abbrev pub kept_free : (lun : ℕ) → UnitStateView
-kept_free lun = record { lun = lun; units = 2; reservations = power_on; slots = slots_with []; preventers = [] }
+kept_free lun = record { lun = lun; units = 2; profile = Spec; reservations = power_on; slots = slots_with []; preventers = [] }
 
 abbrev pub changer_of : DeviceView → UnitView
 changer_of device = unit_with device (kept_free 0)

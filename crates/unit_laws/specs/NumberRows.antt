@@ -3,6 +3,7 @@ use Rattle.std.specs.Prelude.{◌≡◌, ℕ, ◌+◌, true, false, List, [], �
 use Rattle.tape_medium.specs.declared.volume.Volume.{Volume}
 use Rattle.tape_medium.specs.declared.volume.VolumeTag.{VolumeTag}
 use Rattle.tape_medium.specs.Elements.{empty_elements}
+use Rattle.device_server.specs.HostChanger.{spec_changer}
 use Rattle.device_server.specs.View.{DeviceView, Changer}
 use Rattle.judgement.specs.Replies.{busy}
 use Rattle.judgement.specs.declared.reply.Reply.{Reply}
@@ -19,7 +20,7 @@ drive_after None last = made (drive_of None false) 1 2 last
 drive_after (Some v) last = made (drive_of (Some v) true) 1 2 last
 
 abbrev pub changer_after : (last : ℕ) → UnitView
-changer_after last = made (Changer (empty_elements 1 0 1)) 0 2 last
+changer_after last = made (Changer (spec_changer (empty_elements 1 0 1))) 0 2 last
 
 abbrev pub the_last : ℕ
 the_last = 18446744073709551615

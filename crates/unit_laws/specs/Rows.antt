@@ -2,6 +2,7 @@
 use Rattle.std.specs.Prelude.{◌≡◌, ℕ, Bool, true, false, List, [], ◌∷◌, ◌++◌, map, replicate, Option, Some, None, Err}
 use Rattle.scsi_cdb.specs.declared.service_action.OutServiceAction.TheVariants as out
 use Rattle.scsi_cdb.specs.declared.classes.Class.TheVariants as class
+use Rattle.scsi_cdb.specs.declared.profile.Profile.TheVariants.{Spec}
 use Rattle.scsi_cdb.specs.declared.request.Request.TheVariants as request
 use Rattle.scsi_nexus.specs.declared.nexus.Nexus.{Nexus}
 use Rattle.scsi_sense.specs.declared.sense.Sense.{Sense}
@@ -28,6 +29,7 @@ use Rattle.audit_log.specs.declared.record.Record.{Record}
 use Rattle.audit_log.specs.declared.stage.Stage.{Stage}
 use Rattle.audit_log.specs.declared.stage.Stage.TheVariants.{Decoding, ReservationCheck, Fields, Device}
 use Rattle.tape_medium.specs.Elements.{empty_elements}
+use Rattle.device_server.specs.HostChanger.{spec_changer}
 use Rattle.device_server.specs.View.{DeviceView, Drive, Changer}
 use Rattle.judgement.specs.declared.reply.Reply.{Reply}
 use Rattle.judgement.specs.declared.command.Command.TheVariants as command
@@ -57,13 +59,13 @@ abbrev pub slots_with : List Kind → Slots
 slots_with waiting = (a, []) ∷ (b, waiting) ∷ []
 
 abbrev pub kept_by_a : Slots → List Nexus → UnitStateView
-kept_by_a slots preventers = record { lun = 1; units = 2; reservations = held; slots = slots; preventers = preventers }
+kept_by_a slots preventers = record { lun = 1; units = 2; profile = Spec; reservations = held; slots = slots; preventers = preventers }
 
 abbrev pub volume : VolumeTag → Volume
 volume tag = record { tag = tag; protected = false; tape = blank 1000 }
 
 abbrev pub drive_of : Option Volume → Bool → DeviceView
-drive_of bay loaded = Drive (record { bay = bay; loaded = loaded; block_length = 0 })
+drive_of bay loaded = Drive (record { bay = bay; loaded = loaded; block_length = 0; hosts = None })
 
 abbrev pub unit_with : DeviceView → UnitStateView → UnitView
 unit_with device state = record { device = device; state = state; base = record { state = state; last = 0 }; records = [] }
@@ -167,10 +169,10 @@ pub record Preventing (tag : VolumeTag) : Type 0 where
 
 -- why a volume isn't taken out, or put in
 pub record RefusedMedia (tag : VolumeTag) : Type 0 where
-  pub out_of_a_changer : taken_out (unit_with (Changer (empty_elements 1 1 1)) (kept_by_a (slots_with []) (a ∷ []))) ≡ Err NotADrive
+  pub out_of_a_changer : taken_out (unit_with (Changer (spec_changer (empty_elements 1 1 1))) (kept_by_a (slots_with []) (a ∷ []))) ≡ Err NotADrive
   pub out_prevented : taken_out (drive_prevented tag) ≡ Err Prevented
   pub out_of_an_empty_bay : taken_out (unit_with (drive_of None false) (kept_by_a (slots_with []) [])) ≡ Err Empty
-  pub into_a_changer : put_in (unit_with (Changer (empty_elements 1 1 1)) (kept_by_a (slots_with []) [])) (volume tag) ≡ Err NotADrive
+  pub into_a_changer : put_in (unit_with (Changer (spec_changer (empty_elements 1 1 1))) (kept_by_a (slots_with []) [])) (volume tag) ≡ Err NotADrive
   pub into_a_full_bay : put_in (drive_prevented tag) (volume tag) ≡ Err Full
 
 -- a refusal is the fault that is due and no other, and BUSY where none is

@@ -11,9 +11,8 @@ use library_start::library;
 use media_folder::check_folder;
 use output_lines::{Audit, Explanations};
 use permission_chart::write_cells;
-use program_options::{LibraryOptions, MAX_READS};
+use program_options::{LibraryOptions, LibraryProfile, MAX_READS};
 use replay::{ReplayFault, replay};
-use scsi_cdb::Profile;
 use std::fs::Files;
 use std::io::Write;
 use std::net::{Net, TcpListener, TcpStream};
@@ -92,15 +91,15 @@ fn perform<
     W: Write + Send,
 >(rt: &R, files: &HostRuntime, errors: &mut W) -> Result<(), ProgramFault> {
     match task_of_arguments(rt)? {
-        Task::Replay(options, explanations, audit) => {
-            Ok(replay_standard_input(rt, options, explanations, audit)?)
+        Task::Replay(options, profile, explanations, audit) => {
+            Ok(replay_standard_input(rt, options, profile, explanations, audit)?)
         }
-        Task::Serve(options, serving, audit) => {
-            Ok(serve(rt, files, options, serving, audit, errors)?)
+        Task::Serve(options, profile, serving, audit) => {
+            Ok(serve(rt, files, options, profile, serving, audit, errors)?)
         }
         Task::Client(host, explanations) => Ok(client(rt, host, explanations)?),
-        Task::Cells(class) => {
-            write_cells(&mut io::writer(rt), Profile::Spec, class).map_err(|_| ProgramFault::Cells)
+        Task::Cells(profile, class) => {
+            write_cells(&mut io::writer(rt), profile, class).map_err(|_| ProgramFault::Cells)
         }
         Task::CheckMedia(folder) => { Ok(check_folder(rt, folder, &mut io::writer(rt), errors)?) }
     }
@@ -124,12 +123,13 @@ fn task_of_arguments<R: AllocGlobal + Env>(rt: &R) -> Result<Task, CommandLineFa
 fn replay_standard_input<R: AllocGlobal + Input + Print>(
     rt: &R,
     options: LibraryOptions,
+    profile: LibraryProfile,
     explanations: Explanations,
     audit: Audit,
 ) -> Result<(), ReplayFault>
     requires { MakesLibrary options }
 {
-    let mut core = library(rt.alloc(), &options)?;
+    let mut core = library(rt.alloc(), &options, profile)?;
     let mut reader = rt.reader();
     let mut writer = io::writer(rt);
     replay(

@@ -4,6 +4,7 @@
 use super::units::{BLOCK, BLOCK_AND_MARK, NoStore, Units, WRITE_HI, WRITE_MARK, image_in};
 use crate::comparing::{assert_list, assert_same};
 use library_inventory::LibrarySize;
+use program_options::LibraryProfile;
 use saved_media::MediaKeeper;
 use scsi_cdb::Class;
 use std::alloc::Global;
@@ -103,7 +104,7 @@ fn keeper<'a, R: Abort + Wait>(
 ) -> Keeper<'a, R> {
     let image = image_in(rt, alloc, TAG, store);
     let images = Vec::from_array(alloc, [image]).expect(rt, "memory");
-    MediaKeeper::new(alloc, SIZE, images, NoStore).expect(rt, "memory")
+    MediaKeeper::new(alloc, LibraryProfile::Spec, SIZE, images, NoStore).expect(rt, "memory")
 }
 
 /// What is done, with the drive or its keeper.

@@ -4,6 +4,7 @@ use super::commands::{A, B, Ended, ended_by};
 use super::memory_disk::{MemoryDisk, SharedFile, SharedInventory};
 use super::units::{Units, image_in};
 use library_inventory::LibrarySize;
+use program_options::LibraryProfile;
 use saved_media::MediaKeeper;
 use std::alloc::Global;
 use std::process::Abort;
@@ -56,7 +57,14 @@ pub(super) fn keeper<'a, R: Abort + Wait>(
         image_in(rt, alloc, B, SharedFile::old(rt, &disk.b)),
     ];
     let images = Vec::from_array(alloc, images).expect(rt, "memory");
-    MediaKeeper::new(alloc, SIZE, images, SharedInventory(&disk.inventory)).expect(rt, "memory")
+    MediaKeeper::new(
+        alloc,
+        LibraryProfile::Spec,
+        SIZE,
+        images,
+        SharedInventory(&disk.inventory),
+    )
+    .expect(rt, "memory")
 }
 
 #[derive(Drop)]

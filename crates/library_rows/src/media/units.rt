@@ -7,7 +7,7 @@ use device_server::{Attendant, DeviceServer, field_fault};
 use library_inventory::Inventory;
 use library_start::Device;
 use saved_media::{InventoryStore, VolumeImage};
-use scsi_cdb::Request;
+use scsi_cdb::{CommandSet, Request};
 use std::alloc::Global;
 use std::process::Abort;
 use std::sync::{Mutex, Wait};
@@ -71,7 +71,11 @@ impl Units {
             return false;
         };
         let mut device = drive.lock(rt);
-        field_fault(device.kind(), request, bytes).is_none()
+        let commands = CommandSet {
+            profile: device.profile(),
+            kind: device.kind(),
+        };
+        field_fault(commands, request, bytes).is_none()
             && device.perform(alloc, request, bytes).is_ok()
     }
 

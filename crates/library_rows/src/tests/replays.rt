@@ -4,7 +4,7 @@ use super::assert_same;
 use crate::trickle::Trickle;
 use library_start::library;
 use output_lines::{Audit, Explanations};
-use program_options::LibraryOptions;
+use program_options::{LibraryOptions, LibraryProfile};
 use replay::{ReplayFault, replay};
 use std::alloc::Global;
 use std::process::Abort;
@@ -22,7 +22,10 @@ const ROWS: [Row; 4] = [
 
 /// How a replay ends in the usual library that may read a comment so often, and how often it did.
 fn replayed(rt: &impl Abort, alloc: Global, turns: u64) -> (Result<(), ReplayFault>, u64) {
-    let mut core = library(alloc, &LibraryOptions::DEFAULT).expect(rt, "a library");
+    let mut core = library(alloc, &LibraryOptions::DEFAULT, LibraryProfile::Spec).expect(
+        rt,
+        "a library",
+    );
     let mut reader = Trickle {
         bytes: b"###",
         reads: 0,

@@ -5,7 +5,7 @@ use iscsi_keys::write_item;
 use library_start::library;
 use logical_unit::Reply;
 use permit_tables::{Cell, ResType, Role};
-use program_options::LibraryOptions;
+use program_options::{LibraryOptions, LibraryProfile};
 use scsi_cdb::Class;
 use scsi_sense::Status;
 use target_core::Event;
@@ -40,7 +40,10 @@ fn status_at(replies: &[Reply], place: usize) -> Option<Status> {
 #[test]
 fn a_target_runs_events(rt: HostRuntime) {
     let alloc = rt.alloc();
-    let mut core = library(alloc, &LibraryOptions::DEFAULT).expect(&rt, "a library");
+    let mut core = library(alloc, &LibraryOptions::DEFAULT, LibraryProfile::Spec).expect(
+        &rt,
+        "a library",
+    );
     let mut replies = Vec::new(alloc);
     let events = [Event::Reset { lun: 1 }, Event::Reset { lun: 9 }];
     core.run(alloc, &events, &mut replies).expect(&rt, "memory");

@@ -1,7 +1,7 @@
 //! The target of the tests: two empty drives, and two volumes in the first storage elements.
 
 use library_start::{Device, library};
-use program_options::LibraryOptions;
+use program_options::{LibraryOptions, LibraryProfile};
 use std::alloc::{AllocError, Global};
 use target_core::TargetCore;
 
@@ -14,5 +14,5 @@ const OPTIONS: LibraryOptions = LibraryOptions {
 };
 
 pub(super) fn two_drives(alloc: Global) -> Result<TargetCore<Device>, AllocError> {
-    library(alloc, &OPTIONS)
+    library(alloc, &OPTIONS, LibraryProfile::Spec)
 }

@@ -1,4 +1,4 @@
-use Rattle.device_server.proofs.MarkLemmas.{commands_keep_marks, resets_keep_marks}
+use Rattle.device_server.proofs.MarkLemmas.{commands_keep_marks, resets_keep_marks, journeys_keep_marks}
 use Rattle.device_server.proofs.laws.marks_stay.Goals as goal
 
 pub returns-clause-performed : goal.returns-clause-performed
@@ -6,3 +6,6 @@ returns-clause-performed c = commands_keep_marks
 
 pub returns-clause-reset : goal.returns-clause-reset
 returns-clause-reset c = resets_keep_marks
+
+pub returns-clause-journey : goal.returns-clause-journey
+returns-clause-journey c = journeys_keep_marks

@@ -9,7 +9,7 @@ use Rattle.library_start.proofs.power_on.library_within.Goals as goal
 pub unreachable-requires : goal.unreachable-requires
 unreachable-requires c =
     let all : c.drives.place ≡ c.args.options.now.drives = omega (arith, c.drives-test.false, c.drives.auto.place-end) in
-    let ordered : fault_of (units_of c.drives.units.items) ≡ None = rw (c.drives.invariant, all) (in_order c.args.options.now c.requires.range) in
+    let ordered : fault_of (units_of c.drives.units.items) ≡ None = rw (c.drives.invariant, all) (in_order c.args.profile c.args.options.now c.requires.range) in
     let fault = c.in-Err.ensures.err.0 in
     absurd cc
 

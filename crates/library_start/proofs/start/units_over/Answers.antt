@@ -3,7 +3,7 @@ use Rattle.std.proofs.lemmas.Iterator.Consumers.{YieldsList-turn}
 use Rattle.std.proofs.lemmas.Iterator.Adapters.{YieldsList-from_vec}
 use Rattle.logical_unit.specs.UnitView.{units_of}
 use Rattle.library_start.specs.Starting.{ShelvesView}
-use Rattle.library_start.proofs.StartLemmas.{units_at-more}
+use Rattle.library_start.proofs.StartLemmas.{units_over-more}
 use Rattle.library_start.proofs.start.units_over.Goals as goal
 
 pub drives-preserved : goal.drives-preserved
@@ -14,7 +14,7 @@ drives-preserved c =
     let number : c.saturating_add-lun.result ≡ length c.drives.yielded + 1 =
     omega (arith, turn.0, count, c.requires, c.drives.invariant.1, c.saturating_add-lun.ensures) in (
       ap units_of c.in_ok-push-2.ensures.items
-          ∙ units_at-more c.drives.units.items c.in_ok-unit_at-2.field-0 c.args.count c.saturating_add-lun.result c.args.shelves.elements
+          ∙ units_over-more c.args.hosts c.drives.units.items c.in_ok-unit_at-2.field-0 c.args.count c.saturating_add-lun.result c.args.shelves.elements
           c.drives.yielded c.in-Some.drive c.drives.invariant.0 c.in_ok-unit_at-2.ensures number,
       number ∙ sym (length-append c.drives.yielded (c.in-Some.drive ∷ [])),
     )

@@ -1,9 +1,10 @@
 use Rattle.std.proofs.Common.{◌≡◌, false, sym, ap, ◌∙◌, Result}
 use Rattle.scsi_sense.specs.declared.condition.Condition.{Condition}
 use Rattle.judgement.specs.declared.command.Command.{Command}
+use Rattle.judgement.specs.Decisions.{in_cell}
 use Rattle.judgement.specs.Judge.{judged_as}
 use Rattle.judgement.specs.UnitState.{after_contact}
-use Rattle.logical_unit.proofs.LeftUnasked.{leaves_as, answered_alone, ends_before}
+use Rattle.logical_unit.proofs.LeftUnasked.{leaves_as, answered_alone, ends_before, left_at}
 use Rattle.logical_unit.proofs.move_finding.judge_move.Given as given
 use Rattle.logical_unit.proofs.move_finding.judge_move.Goals.{in_default-via-in-Ok+else-leaves, in_default-via-in_default}
 use Rattle.logical_unit.proofs.move_finding.judge_move.Goals as goal
@@ -38,3 +39,10 @@ returns-in-Ended-clause-ok g c = (
   }) c.args.nexus s c.args.bytes.now) c.in-Ok.is
       ∙ c.in-Ended.ensures.ended (g.D.DeviceServer.shown c.args.device.now.value) c.args.bytes.now,
 )
+
+pub returns-in-LetThrough-clause-ok : goal.returns-in-LetThrough-clause-ok
+returns-in-LetThrough-clause-ok g c =
+    left_at (g.D.DeviceServer.shown c.args.device.now.value) c.args.state.now c.stands_before.new.state c.args.nexus c.args.decoded.now
+    c.in-Ok.command c.in-LetThrough.cell c.args.bytes.now c.make_contact.new.self c.in_cell.result
+    c.requires.changer c.in-Ok.is c.requires.moves (sym c.leaves.ensures ∙ c.if-leaves.true) c.in-LetThrough.ensures
+    c.make_contact.ensures (c.in_cell.ensures ∙ ap (in_cell c.in-LetThrough.cell) c.at_device.ensures)

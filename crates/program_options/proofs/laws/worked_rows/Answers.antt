@@ -2,6 +2,8 @@ use Rattle.std.proofs.Common.{◌∷◌, [], codes, refl, arith, inl, inr}
 use Rattle.std.specs.Net.Grammar.{IsElided}
 use Rattle.std.specs.declared.net.ipv6_addr.Ipv6Addr.{Ipv6Addr}
 use Rattle.hex.specs.Hex.{decode_pairs}
+use Rattle.sha2.specs.Sha256.{sha256, digest_bytes, hash_after, compress, rounds, schedule, first_words}
+use Rattle.program_options.specs.Profiles.{number_of_target}
 use Rattle.program_options.proofs.laws.worked_rows.Goals as goal
 
 pub returns-clause-addresses : goal.returns-clause-addresses
@@ -69,3 +71,28 @@ returns-clause-portals c = record {
   no_port_behind = refl;
   no_colon_behind = refl;
 }
+
+pub returns-clause-profiles : goal.returns-clause-profiles
+unfolding decode_pairs
+returns-clause-profiles c = record {
+  default_profile = refl;
+  hosts_profile = refl;
+  capital_letters = refl;
+  nothing = refl;
+  number = refl;
+  small_letters = refl;
+  short_number = refl;
+  long_number = refl;
+  no_digit = refl;
+  usual = refl;
+  hosts = refl;
+  numbered = refl;
+  number_for_hosts = refl;
+  number_alone = refl;
+  number_for_default = refl;
+  no_number = refl;
+}
+
+pub returns-clause-targets : goal.returns-clause-targets
+unfolding number_of_target sha256 digest_bytes hash_after compress rounds schedule first_words
+returns-clause-targets c = record { usual = refl; other = refl }

@@ -13,5 +13,5 @@ returns-in-Ok-clause-ok g c =
         script = search rules;
         run = ran.1;
       };
-      lines = rw (c.as_bytes.ensures.value, c.in_ok-records.ensures, c.all.ensures.units, c.deref-2.ensures.value, ran.2, c.new-text.ensures.items) at c.in-Ok.ensures;
+      lines = rw (c.as_bytes.ensures.value, c.in_ok-records.ensures, c.all.ensures.units, c.deref-2.ensures.value, ran.2, c.profile-profile.ensures.changer, c.new-text.ensures.items) at c.in-Ok.ensures;
     }

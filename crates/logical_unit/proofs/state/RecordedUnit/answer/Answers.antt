@@ -1,4 +1,5 @@
 use Rattle.std.proofs.Common.{rules, ◌≡◌, true, sym, subst}
+use Rattle.device_server.specs.View.{profile_of}
 use Rattle.judgement.specs.UnitState.{has_room}
 use Rattle.logical_unit.specs.UnitView.{RecordedUnitView}
 use Rattle.logical_unit.proofs.DeviceCommands.{IsPlainIf, decoded_plain}
@@ -13,9 +14,11 @@ invariant_of-self-2 g c =
     let slot = subst (λ (v : RecordedUnitView). has_room v.state c.args.received.now.nexus ≡ true) (sym c.self.view_is) c.requires.slot in
     let room : has_room c.self.inside.state c.nexus-nexus.result ≡ true = subst (λ n. has_room c.self.inside.state n ≡ true)
     (sym c.nexus-nexus.ensures) slot in
+    let of = subst (λ (v : RecordedUnitView). v.state.profile ≡ profile_of (g.D.DeviceServer.shown c.args.device.now.value))
+    (sym c.self.view_is) c.requires.profile in
     rw c.note-number.ensures.records
     (answered_stands c.self.inside.base c.self.inside.state c.judge.new.state c.self.inside.trail.records _ _ c.nexus-nexus.result
-    c.in_ok-decoded.decoded c.bytes.result.now _ c.in_ok-act.act c.in_ok-decision.decision c.in_ok-decision.reply c.self.invariant room
+    c.in_ok-decoded.decoded c.bytes.result.now _ c.in_ok-act.act c.in_ok-decision.decision c.in_ok-decision.reply c.self.invariant room of
     plain c.in_ok-act.ensures.ok c.in_ok-decision.ensures.ok)
 
 pub returns-clause-ok : goal.returns-clause-ok

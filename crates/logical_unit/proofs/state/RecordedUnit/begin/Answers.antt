@@ -1,7 +1,7 @@
-use Rattle.std.proofs.Common.{rules, ◌≡◌, List, ℕ, Result, true, false, refl, sym, ap, subst, ◌∙◌}
+use Rattle.std.proofs.Common.{rules, ◌≡◌, Result, true, false, refl, sym, ap, subst, ◌∙◌}
 use Rattle.scsi_sense.specs.declared.condition.Condition.TheVariants.{InternalTargetFailure}
 use Rattle.scsi_cdb.specs.declared.profile.CommandSet.{CommandSet}
-use Rattle.device_server.specs.View.{commands_of}
+use Rattle.device_server.specs.View.{profile_of, commands_of}
 use Rattle.judgement.specs.Judge.{judged_as}
 use Rattle.judgement.specs.JudgedUnit.{JudgedUnit}
 use Rattle.judgement.specs.Commands.{decoded_command, act_of, act_of_decoded}
@@ -107,12 +107,14 @@ invariant_of-self-2 g c =
     let slot = subst (λ (v : RecordedUnitView). has_room v.state c.args.received.now.nexus ≡ true) (sym c.self.view_is) c.requires.slot in
     let room : has_room c.self.inside.state c.nexus-nexus.result ≡ true = subst (λ n. has_room c.self.inside.state n ≡ true)
     (sym c.nexus-nexus.ensures) slot in
+    let of = subst (λ (v : RecordedUnitView). v.state.profile ≡ profile_of (g.D.DeviceServer.shown c.args.device.now.value))
+    (sym c.self.view_is) c.requires.profile in
     let found = subst (λ (f : MoveFinding). FindsMove (g.D.DeviceServer.shown c.args.device.now.value)
     (g.D.DeviceServer.shown c.judge_move.new.device.value) c.self.inside.state c.judge_move.new.state c.nexus-nexus.result
     c.in_ok-decoded.decoded c.bytes.result.now f) c.in-Ended.is c.in_ok-found.ensures.ok in
     rw c.note-number.ensures.records
     (answered_stands c.self.inside.base c.self.inside.state c.judge_move.new.state c.self.inside.trail.records _ _ c.nexus-nexus.result
-    c.in_ok-decoded.decoded c.bytes.result.now _ c.in_ok-act.act c.in-Ended.decision c.in-Ended.reply c.self.invariant room plain
+    c.in_ok-decoded.decoded c.bytes.result.now _ c.in_ok-act.act c.in-Ended.decision c.in-Ended.reply c.self.invariant room of plain
     c.in_ok-act.ensures.ok found.1)
 
 pub returns-clause-begins : goal.returns-clause-begins

@@ -1,6 +1,8 @@
-use Rattle.std.proofs.Common.{rules, refl, ap, ◌∙◌}
+use Rattle.std.proofs.Common.{rules, ◌≡◌, refl, ap, ◌∙◌}
+use Rattle.device_server.specs.View.{profile_of}
 use Rattle.logical_unit.specs.UnitView.{RecordedUnitView, UnitWithRoom, unit_of}
 use Rattle.logical_unit.proofs.Contents.{changes_nothing}
+use Rattle.logical_unit.proofs.Profiles.{answered_profile}
 use Rattle.logical_unit.proofs.Executed.{executed, not_busy}
 use Rattle.logical_unit.proofs.unit.LogicalUnit.answer.Goals as goal
 
@@ -18,3 +20,9 @@ returns-clause-outsider g c closed = changes_nothing _ _ c.args.received.now.nex
 
 pub returns-clause-act : goal.returns-clause-act
 returns-clause-act g c = search rules fits 100
+
+pub invariant_of-self-2 : goal.invariant_of-self-2
+invariant_of-self-2 g c =
+    let of : c.reserve.new.self.state.profile ≡ profile_of (g.D.DeviceServer.shown c.self.inside.device.value) = search rules in
+    answered_profile (g.D.DeviceServer.shown c.self.inside.device.value) (g.D.DeviceServer.shown c.answer.new.device.value) c.reserve.new.self
+    c.answer.new.self c.args.received.now.nexus c.args.received.now.cdb c.args.received.now.bytes c.in-Ok.reply c.in-Ok.ensures.ok of
