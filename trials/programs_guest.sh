@@ -108,6 +108,8 @@ see mtx -f "$changer" status <<'END'
 Data Transfer Element 0:Full (Storage Element 2 Loaded):VolumeTag = VOL00002
 Data Transfer Element 1:Full (Storage Element 1 Loaded):VolumeTag = VOL00001
 END
+see mtx -f "$changer" position 3 </dev/null
+see sg_raw "$changer" 37 00 04 00 00 00 00 01 00 00 </dev/null
 # Both drives tell of their volumes first.
 for each in 1 2; do sg_turs "$drive" >/dev/null 2>&1 || true; done
 see sg_turs "$drive" </dev/null

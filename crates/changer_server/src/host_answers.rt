@@ -3,7 +3,7 @@
 ghost use Rattle.std.specs.Prelude.{◌≡◌, IfOk};
 ghost use Rattle.scsi_cdb.specs.declared.kind.Kind.TheVariants as kind;
 ghost use Rattle.log_pages.specs.LogSelect as log;
-ghost use Rattle.device_server.specs.HostChanger.{changer_log_selected, changer_command_answer};
+ghost use Rattle.device_server.specs.HostChanger.{changer_log_selected, changer_command_answer, positioned};
 
 use crate::host_changer::sense_mode;
 use device_server::{Outcome, Payload, codes_answer, log_query, mode_query, told_of_log};
@@ -14,6 +14,7 @@ use scsi_cdb::{HostRequest, Kind};
 use scsi_sense::Condition;
 use std::alloc::{AllocError, Global};
 use supported_commands::supported_task_management;
+use tape_medium::TRANSPORT;
 
 /// The end of such a command, none of which changes a changer. It has no MODE SELECT.
 pub(crate) fn command_answer(
@@ -106,6 +107,30 @@ pub(crate) fn command_answer(
             let payload = Payload::copied(alloc, data)?.cut(*allocation_length as usize);
             Ok(Outcome::good(payload))
         }
+        HostRequest::PositionToElement {
+            medium_transport_element_address,
+            destination_element_address,
+            invert: _,
+        } => Ok(position(
+            alloc,
+            elements,
+            *medium_transport_element_address,
+            *destination_element_address,
+        )),
+        HostRequest::InitializeElementStatusWithRange { .. } => {
+            Ok(Outcome::good(Payload::none(alloc)))
+        }
+    }
+}
+
+/// POSITION TO ELEMENT: nothing is moved.
+fn position(alloc: Global, elements: &Elements, transport: u16, destination: u16) -> Outcome
+    ensures { result ≡ positioned elements.now transport destination }
+{
+    if transport == TRANSPORT && elements.can_hold(destination) {
+        Outcome::good(Payload::none(alloc))
+    } else {
+        Outcome::check(alloc, Condition::InvalidElementAddress)
     }
 }
 

@@ -4,6 +4,9 @@ use Rattle.std.proofs.lemmas.Bool.Decides.{nat_tests}
 use Rattle.std.proofs.Common.{arith, ◌≡◌, ◌↔◌, ℕ, Bool, true, false, List, [], ◌∷◌, Option, Some, None, Result, Ok, Err, refl, sym, ap, ◌∙◌}
 use Rattle.std.specs.Prelude.{cond, length, drop, zero, suc, ◌==◌, ◌||◌, not, nat_lt}
 use Rattle.std.specs.Option.{option_map}
+use Rattle.scsi_cdb.specs.Commands.{command_of}
+use Rattle.scsi_cdb.specs.Encoding.{IsOf}
+use Rattle.scsi_cdb.specs.Kinds.{commands}
 use Rattle.scsi_cdb.specs.declared.host_request.HostRequest.{HostRequest}
 use Rattle.scsi_cdb.specs.declared.host_request.HostRequest.TheVariants as host
 use Rattle.scsi_cdb.specs.declared.kind.Kind.{Kind}
@@ -181,19 +184,22 @@ sense_good d h form dbd pc page subpage l none =
     let sense = mode_sense form dbd pc page subpage in
     answers_good l (answered (drive_fault sense) (drive_data sense (mode_state d h))) (answered_refusal (drive_fault sense) (drive_data sense (mode_state d h)) ∙ none)
 
-command_good : (d : DriveView) (h : HostDrive) (command : HostRequest) (bytes : List ℕ) → host_command_fault drive_kind command bytes ≡ None
-    → (host_command_step d h command bytes).1.status ≡ Good
-command_good d h (host.SendDiagnostic code test l) bytes none = refl
-command_good d h (host.LogSelect pcr sp pc page subpage l) bytes none =
+command_good : (d : DriveView) (h : HostDrive) (command : HostRequest) (bytes : List ℕ) → IsOf (commands Hosts drive_kind) (request.Host command)
+    → host_command_fault drive_kind command bytes ≡ None → (host_command_step d h command bytes).1.status ≡ Good
+unfolding command_of
+command_good d h (host.SendDiagnostic code test l) bytes of_drives none = refl
+command_good d h (host.LogSelect pcr sp pc page subpage l) bytes of_drives none =
     log_selects_good d h (log.selected drive_kind (log_select pcr sp page subpage l) (length bytes)) none
-command_good d h (host.LogSense ppc sp pc page subpage pointer l) bytes none =
+command_good d h (host.LogSense ppc sp pc page subpage pointer l) bytes of_drives none =
     let answer : Result (List ℕ) Condition = drive_log_data (log_sense ppc sp page subpage pointer) (drive_log d h) in
     answers_good l answer (why_refused answer ∙ drives_refuse_fields (log_sense ppc sp page subpage pointer) (drive_log d h) ∙ none)
-command_good d h (host.ModeSelect10 sp l) bytes none = select_good d h Ten sp l bytes none
-command_good d h (host.ModeSense10 dbd pc page subpage l) bytes none = sense_good d h Ten dbd pc page subpage l none
-command_good d h (host.ReportSupportedOperationCodes rctd options code action l) bytes none =
+command_good d h (host.ModeSelect10 sp l) bytes of_drives none = select_good d h Ten sp l bytes none
+command_good d h (host.ModeSense10 dbd pc page subpage l) bytes of_drives none = sense_good d h Ten dbd pc page subpage l none
+command_good d h (host.ReportSupportedOperationCodes rctd options code action l) bytes of_drives none =
     answers_good l (codes_answer drive_kind rctd (options_at options) code action) (codes_refusal drive_kind rctd (options_at options) code action ∙ none)
-command_good d h (host.ReportSupportedTaskManagementFunctions repd l) bytes none = refl
+command_good d h (host.ReportSupportedTaskManagementFunctions repd l) bytes of_drives none = refl
+command_good d h (host.PositionToElement transport destination invert) bytes of_drives none = let no : false ≡ true = of_drives.1 in absurd cc
+command_good d h (host.InitializeElementStatusWithRange fast range start count) bytes of_drives none = let no : false ≡ true = of_drives.0 in absurd cc
 
 -- at a drive of the hosts' profile
 hosts_profile : (d : DriveView) (h : HostDrive) → d.hosts ≡ Some h → profile_of (Drive d) ≡ Hosts
@@ -208,7 +214,7 @@ good_by_fields d h r bytes is step none =
     ∙ step (sym (ap (λ (p : Profile). field_fault_by p drive_kind r bytes) (hosts_profile d h is)) ∙ none)
 
 pub fields_decide_host_commands : FieldsDecideHostCommands
-fields_decide_host_commands d h command bytes is = good_by_fields d h (request.Host command) bytes is (command_good d h command bytes)
+fields_decide_host_commands d h command bytes is of_drives = good_by_fields d h (request.Host command) bytes is (command_good d h command bytes of_drives)
 
 pub fields_decide_mode_select : FieldsDecideModeSelect
 fields_decide_mode_select d h sp l bytes is = good_by_fields d h (request.ModeSelect sp l) bytes is (select_good d h Six sp l bytes)

@@ -10,7 +10,7 @@ use Rattle.scsi_cdb.specs.declared.request.Request.{Request}
 use Rattle.scsi_cdb.specs.declared.request.Request.TheVariants as request
 use Rattle.scsi_sense.specs.Conditions.{sense_for}
 use Rattle.scsi_sense.specs.declared.condition.Condition.{Condition}
-use Rattle.scsi_sense.specs.declared.condition.Condition.TheVariants.{InitializingCommandRequired, InvalidFieldInCdb, WriteProtected, EndOfDataDetected}
+use Rattle.scsi_sense.specs.declared.condition.Condition.TheVariants.{InitializingCommandRequired, InvalidElementAddress, InvalidFieldInCdb, WriteProtected, EndOfDataDetected}
 use Rattle.tape_medium.specs.declared.elements.MapFault.{MapFault}
 use Rattle.tape_medium.specs.declared.elements.MapFault.TheVariants.{BadAddress, SourceEmpty, DestinationFull}
 use Rattle.tape_medium.specs.Elements.{Elements, Element, Transport, DataTransfer, ImportExport, Storage, Nowhere, element_at, tag_of, tag_held, held_in, moved, refusal, move_refusal}
@@ -48,7 +48,7 @@ use Rattle.device_server.specs.Drive.{DriveView, read_of, reads, run, bytes_of_o
 use Rattle.device_server.specs.Failures.{is_failure, is_data_transfer, is_for_drives, DrivesNeverFail, ChangersFailForDrives}
 use Rattle.device_server.specs.HostFields.{refusal_of}
 use Rattle.device_server.specs.Hosts.{mode_sense, log_sense, log_select, codes_asked, codes_answer}
-use Rattle.device_server.specs.HostChanger.{ChangerView, addresses_of, changer_log_selected, changer_command_answer, host_changer_step}
+use Rattle.device_server.specs.HostChanger.{ChangerView, addresses_of, can_hold, changer_log_selected, changer_command_answer, host_changer_step}
 use Rattle.device_server.specs.HostDrive.{mode_of, mode_state, host_selects, host_loads, not_ready, host_in_volume, host_in_bay, drive_log, host_log_selects, host_command_step, host_drive_step}
 use Rattle.device_server.specs.View.{DeviceView, Drive, Changer, commands_of, field_fault, drive_stepped, changer_stepped, stepped, performed}
 use Rattle.device_server.specs.Volumes.{is_move}
@@ -194,6 +194,8 @@ host_command_free d h (host.ModeSense10 dbd pc page subpage l) bytes =
 host_command_free d h (host.ReportSupportedOperationCodes rctd options code action l) bytes =
     answers_free l (codes_answer drive_kind rctd (options_at options) code action) (codes_answer_free drive_kind rctd (options_at options) code action)
 host_command_free d h (host.ReportSupportedTaskManagementFunctions repd l) bytes = refl
+host_command_free d h (host.PositionToElement transport destination invert) bytes = refl
+host_command_free d h (host.InitializeElementStatusWithRange fast range start count) bytes = refl
 
 host_drive_free : (d : DriveView) (h : HostDrive) (r : Request) (bytes : List ℕ) → IsFree (host_drive_step d h r bytes)
 host_drive_free d h request.ReadBlockLimits bytes = refl
@@ -259,6 +261,10 @@ changer_log_selected_free : (change : Result LogChange Condition) → fails chan
 changer_log_selected_free (Ok change) free = refl
 changer_log_selected_free (Err condition) free = free
 
+positioned_free : (may : Bool) → is_failure (cond may (done []) (refused InvalidElementAddress)).sense ≡ false
+positioned_free true = refl
+positioned_free false = refl
+
 changer_command_free : (e : Elements) (command : HostRequest) (bytes : List ℕ) → is_failure (changer_command_answer e command bytes).sense ≡ false
 changer_command_free e (host.SendDiagnostic code test l) bytes = refl
 changer_command_free e (host.LogSelect pcr sp pc page subpage l) bytes =
@@ -272,6 +278,8 @@ changer_command_free e (host.ModeSense10 dbd pc page subpage l) bytes =
 changer_command_free e (host.ReportSupportedOperationCodes rctd options code action l) bytes =
     answers_free l (codes_answer changer_kind rctd (options_at options) code action) (codes_answer_free changer_kind rctd (options_at options) code action)
 changer_command_free e (host.ReportSupportedTaskManagementFunctions repd l) bytes = refl
+changer_command_free e (host.PositionToElement transport destination invert) bytes = positioned_free (transport == 0 && can_hold e destination)
+changer_command_free e (host.InitializeElementStatusWithRange fast range start count) bytes = refl
 
 -- of every command but a move
 host_changer_free : (c : ChangerView) (h : HostChanger) (r : Request) (bytes : List ℕ) → is_move r ≡ false → IsFree (host_changer_step c h r bytes)

@@ -191,6 +191,8 @@ command_free k (host.ModeSelect10 sp l) bytes = selected_free default_values blo
 command_free k (host.ModeSense10 dbd pc page subpage l) bytes = mode_sense_free k (mode_sense Ten dbd pc page subpage)
 command_free k (host.ReportSupportedOperationCodes rctd options code action l) bytes = codes_free k rctd (options_at options) code action
 command_free k (host.ReportSupportedTaskManagementFunctions repd l) bytes = refl
+command_free k (host.PositionToElement transport destination invert) bytes = invalid_free invert
+command_free k (host.InitializeElementStatusWithRange fast range start count) bytes = refl
 
 host_free : (k : Kind) (r : Request) (bytes : List ℕ) → fault_fails (host_field_fault k r bytes) ≡ false
 host_free k (request.ModeSelect sp l) bytes = selected_free default_values block_limit Six sp l bytes

@@ -12,7 +12,7 @@ use Rattle.scsi_cdb.specs.declared.request.Request.{Request}
 use Rattle.scsi_cdb.specs.declared.request.Request.TheVariants as request
 use Rattle.scsi_cdb.specs.Classes.{class_of}
 use Rattle.scsi_sense.specs.declared.condition.Condition.{Condition}
-use Rattle.scsi_sense.specs.declared.condition.Condition.TheVariants.{MediumNotPresent, InitializingCommandRequired, InvalidFieldInCdb, InvalidCommandOperationCode, WriteProtected, EndOfDataDetected, InternalTargetFailure}
+use Rattle.scsi_sense.specs.declared.condition.Condition.TheVariants.{MediumNotPresent, InitializingCommandRequired, InvalidFieldInCdb, InvalidCommandOperationCode, WriteProtected, EndOfDataDetected, InternalTargetFailure, InvalidElementAddress}
 use Rattle.scsi_sense.specs.declared.sense.Sense.{Sense}
 use Rattle.scsi_sense.specs.declared.status.Status.TheVariants.{Good}
 use Rattle.tape_medium.specs.declared.elements.MapFault.{MapFault}
@@ -51,7 +51,7 @@ use Rattle.device_server.specs.Drive.{DriveView, read_of, reads, run, bytes_of_o
 use Rattle.device_server.specs.Mode.{block_length_after}
 use Rattle.device_server.specs.Changer.{changer_mode_data, moved_alone, carried, changer_step}
 use Rattle.device_server.specs.Hosts.{mode_sense, log_sense, log_select, codes_answer}
-use Rattle.device_server.specs.HostChanger.{ChangerView, host_moved_alone, host_carried, status_asked, addresses_of, changer_log_selected, changer_command_answer, host_changer_step}
+use Rattle.device_server.specs.HostChanger.{ChangerView, host_moved_alone, host_carried, status_asked, addresses_of, can_hold, changer_log_selected, changer_command_answer, host_changer_step}
 use Rattle.device_server.specs.HostDrive.{mode_of, mode_state, is_other_mode, host_selects, host_loads, not_ready, host_in_volume, host_in_bay, drive_log, host_log_selects, host_command_step, host_drive_step}
 use Rattle.device_server.specs.View.{DeviceView, Drive, Changer, profile_by, profile_of, field_fault, drive_stepped, changer_stepped, stepped, performed}
 use Rattle.device_server.specs.Ends.{IsEnded, told_by, IsOwn}
@@ -261,6 +261,8 @@ host_command_own d h (host.ModeSense10 dbd pc page subpage l) bytes =
 host_command_own d h (host.ReportSupportedOperationCodes rctd options code action l) bytes =
     own Hosts _ _ (answers_is l (codes_answer drive_kind rctd (options_at options) code action))
 host_command_own d h (host.ReportSupportedTaskManagementFunctions repd l) bytes = own Hosts _ _ (done_is (take l (task_management repd)))
+host_command_own d h (host.PositionToElement transport destination invert) bytes = own Hosts _ _ (refused_is InvalidCommandOperationCode)
+host_command_own d h (host.InitializeElementStatusWithRange fast range start count) bytes = own Hosts _ _ (refused_is InvalidCommandOperationCode)
 
 host_drive_own : (d : DriveView) (h : HostDrive) (r : Request) (bytes : List ℕ) → IsOwn Hosts r (host_drive_step d h r bytes).1
 host_drive_own d h request.ReadBlockLimits bytes = own Hosts request.ReadBlockLimits _ (done_is _)
@@ -298,6 +300,9 @@ changer_command_own e (host.ModeSense10 dbd pc page subpage l) bytes =
 changer_command_own e (host.ReportSupportedOperationCodes rctd options code action l) bytes =
     own Hosts _ _ (answers_is l (codes_answer changer_kind rctd (options_at options) code action))
 changer_command_own e (host.ReportSupportedTaskManagementFunctions repd l) bytes = own Hosts _ _ (done_is (take l (task_management repd)))
+changer_command_own e (host.PositionToElement transport destination invert) bytes =
+    own Hosts _ _ (either (transport == 0 && can_hold e destination) (done []) (refused InvalidElementAddress) (done_is []) (refused_is InvalidElementAddress))
+changer_command_own e (host.InitializeElementStatusWithRange fast range start count) bytes = own Hosts _ _ (done_is [])
 
 host_changer_own : (c : ChangerView) (h : HostChanger) (r : Request) (bytes : List ℕ) → IsOwn Hosts r (host_changer_step c h r bytes).1
 host_changer_own c h request.TestUnitReady bytes = own Hosts request.TestUnitReady _ (done_is [])

@@ -108,6 +108,8 @@ host_command_stays d h (host.ModeSelect10 sp l) bytes is = selects_stays d h (mo
 host_command_stays d h (host.ModeSense10 dbd pc page subpage l) bytes is = refl
 host_command_stays d h (host.ReportSupportedOperationCodes rctd options code action l) bytes is = refl
 host_command_stays d h (host.ReportSupportedTaskManagementFunctions repd l) bytes is = refl
+host_command_stays d h (host.PositionToElement transport destination invert) bytes is = refl
+host_command_stays d h (host.InitializeElementStatusWithRange fast range start count) bytes is = refl
 
 host_drive_stays : (d : DriveView) (h : HostDrive) (r : Request) (bytes : List ℕ) → d.hosts ≡ Some h → Stays d (host_drive_step d h r bytes)
 host_drive_stays d h request.ReadBlockLimits bytes is = refl

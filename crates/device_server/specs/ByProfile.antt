@@ -3,9 +3,11 @@
 use Rattle.std.specs.Prelude.{◌≡◌, ◌↔◌, ℕ, Bool, List, Some, None, Ok}
 use Rattle.scsi_cdb.specs.declared.host_request.HostRequest.{HostRequest}
 use Rattle.scsi_cdb.specs.declared.kind.Kind.{Kind}
-use Rattle.scsi_cdb.specs.declared.profile.Profile.TheVariants.{Spec}
+use Rattle.scsi_cdb.specs.declared.kind.Kind.TheVariants as kind
+use Rattle.scsi_cdb.specs.declared.profile.Profile.TheVariants.{Spec, Hosts}
 use Rattle.scsi_cdb.specs.declared.request.Request.{Request}
 use Rattle.scsi_cdb.specs.declared.request.Request.TheVariants.{ModeSelect, ModeSense, Host}
+use Rattle.scsi_cdb.specs.Encoding.{IsOf}
 use Rattle.scsi_cdb.specs.Kinds.{commands}
 use Rattle.scsi_sense.specs.declared.status.Status.TheVariants.{Good}
 use Rattle.tape_medium.specs.Elements.{Elements}
@@ -34,13 +36,14 @@ ChangersOfSpec = (e : Elements) (request : Request) (bytes : List ℕ)
 abbrev pub IdentitiesAreOfHosts : Type 0
 IdentitiesAreOfHosts = (device : DeviceView) → (profile_of device ≡ Spec) ↔ (identity_of device ≡ None)
 
--- THE HOSTS' PROFILE: what fields don't refuse of the commands that this profile alone has, of MODE SELECT and of MODE SENSE, is carried out
+-- THE HOSTS' PROFILE: what fields don't refuse of the commands that drives have in this profile alone, of MODE SELECT and of MODE SENSE, is
+-- carried out
 abbrev pub IsGoodUnlessRefused : DriveView → Request → List ℕ → Type 0
 IsGoodUnlessRefused d request bytes = field_fault (Drive d) request bytes ≡ None → (performed (Drive d) request bytes).1.status ≡ Good
 
 abbrev pub FieldsDecideHostCommands : Type 0
 FieldsDecideHostCommands = (d : DriveView) (h : HostDrive) (command : HostRequest) (bytes : List ℕ) → d.hosts ≡ Some h
-    → IsGoodUnlessRefused d (Host command) bytes
+    → IsOf (commands Hosts kind.Drive) (Host command) → IsGoodUnlessRefused d (Host command) bytes
 
 abbrev pub FieldsDecideModeSelect : Type 0
 FieldsDecideModeSelect = (d : DriveView) (h : HostDrive) (save_pages : Bool) (list_length : ℕ) (bytes : List ℕ) → d.hosts ≡ Some h

@@ -1,16 +1,16 @@
 -- A medium changer and what it keeps, and one of the hosts' profile by the commands that it carries out otherwise than one of the default
 -- profile, or alone (SPC-4, SMC-3).
-use Rattle.std.specs.Prelude.{ℕ, Bool, List, [], length, take, Option, Some, None, Result, Ok, Err}
+use Rattle.std.specs.Prelude.{ℕ, ◌==◌, Bool, ◌&&◌, List, [], length, take, Option, Some, None, is_some, Result, Ok, Err, if◌then◌else◌}
 use Rattle.std.specs.Option.{option_map}
 use Rattle.scsi_cdb.specs.declared.host_request.HostRequest.{HostRequest}
-use Rattle.scsi_cdb.specs.declared.host_request.HostRequest.TheVariants.{SendDiagnostic, LogSelect, LogSense, ModeSelect10, ModeSense10, ReportSupportedOperationCodes, ReportSupportedTaskManagementFunctions}
+use Rattle.scsi_cdb.specs.declared.host_request.HostRequest.TheVariants.{SendDiagnostic, LogSelect, LogSense, ModeSelect10, ModeSense10, ReportSupportedOperationCodes, ReportSupportedTaskManagementFunctions, PositionToElement, InitializeElementStatusWithRange}
 use Rattle.scsi_cdb.specs.declared.kind.Kind.TheVariants as kind
 use Rattle.scsi_cdb.specs.declared.request.Request.{Request}
 use Rattle.scsi_cdb.specs.declared.request.Request.TheVariants.{TestUnitReady, InitializeElementStatus, ModeSense, MoveMedium, ReadElementStatus, Host}
 use Rattle.scsi_sense.specs.declared.condition.Condition.{Condition}
-use Rattle.scsi_sense.specs.declared.condition.Condition.TheVariants.{InternalTargetFailure, InvalidCommandOperationCode}
+use Rattle.scsi_sense.specs.declared.condition.Condition.TheVariants.{InternalTargetFailure, InvalidCommandOperationCode, InvalidElementAddress}
 use Rattle.tape_medium.specs.declared.elements.MapFault.{MapFault}
-use Rattle.tape_medium.specs.Elements.{Elements, first_data_transfer, first_import_export, first_storage, moves, move_refusal}
+use Rattle.tape_medium.specs.Elements.{Elements, element_at, tag_held, first_data_transfer, first_import_export, first_storage, moves, move_refusal}
 use Rattle.element_sources.specs.HostStatus.{host_status}
 use Rattle.element_sources.specs.Sources.{source_moved}
 use Rattle.element_sources.specs.declared.status_request.StatusRequest.{StatusRequest}
@@ -83,6 +83,13 @@ abbrev pub changer_log_selected : Result LogChange Condition → Outcome
 changer_log_selected (Err condition) = refused condition
 changer_log_selected (Ok change) = tells (told_of_log change)
 
+-- POSITION TO ELEMENT (SMC-3, "POSITION TO ELEMENT command"): the transport is the element 0, and the destination one that can hold a volume
+abbrev pub can_hold : Elements → (address : ℕ) → Bool
+can_hold e address = is_some (tag_held e (element_at e address))
+
+abbrev pub positioned : Elements → (transport destination : ℕ) → Outcome
+positioned e transport destination = if transport == 0 && can_hold e destination then done [] else refused InvalidElementAddress
+
 -- THE COMMANDS that only the hosts' profile has, none of which changes a changer. It has no MODE SELECT.
 abbrev pub changer_command_answer : Elements → HostRequest → List ℕ → Outcome
 changer_command_answer e (SendDiagnostic code self_test list_length) bytes = done []
@@ -96,6 +103,8 @@ changer_command_answer e (ModeSense10 dbd control page subpage allocation_length
 changer_command_answer e (ReportSupportedOperationCodes rctd options code action allocation_length) bytes =
     answers allocation_length (codes_answer kind.Changer rctd (options_at options) code action)
 changer_command_answer e (ReportSupportedTaskManagementFunctions repd allocation_length) bytes = done (take allocation_length (task_management repd))
+changer_command_answer e (PositionToElement transport destination invert) bytes = positioned e transport destination
+changer_command_answer e (InitializeElementStatusWithRange fast range start count) bytes = done []
 
 -- THE STEP of a changer of the hosts' profile by a command whose fields aren't refused
 abbrev pub host_changer_step : ChangerView → HostChanger → Request → List ℕ → ChangerView × Outcome

@@ -1,7 +1,7 @@
 -- Worked rows: what a host gets from a changer of the hosts' profile, byte by byte, and the changer after it. It has one data transfer and three
 -- storage elements.
 use Rattle.std.specs.Prelude.{◌≡◌, ℕ, true, false, [], ◌∷◌, ◌++◌, Option, Some, None}
-use Rattle.scsi_cdb.specs.declared.host_request.HostRequest.TheVariants.{SendDiagnostic, LogSelect, LogSense, ModeSelect10, ModeSense10, ReportSupportedOperationCodes, ReportSupportedTaskManagementFunctions}
+use Rattle.scsi_cdb.specs.declared.host_request.HostRequest.TheVariants.{SendDiagnostic, LogSelect, LogSense, ModeSelect10, ModeSense10, ReportSupportedOperationCodes, ReportSupportedTaskManagementFunctions, PositionToElement, InitializeElementStatusWithRange}
 use Rattle.scsi_cdb.specs.declared.profile.Profile.TheVariants.{Hosts}
 use Rattle.scsi_cdb.specs.declared.request.Request.TheVariants.{TestUnitReady, ModeSense, ReadElementStatus, Host}
 use Rattle.tape_medium.specs.declared.volume.VolumeTag.{VolumeTag}
@@ -12,7 +12,7 @@ use Rattle.unit_attention.specs.declared.kind.Kind.TheVariants.{LogParametersCha
 use Rattle.device_server.specs.HostChanger.{host_view}
 use Rattle.device_server.specs.View.{DeviceView, Changer, identity_of, profile_of, journeyed, reset_of}
 use Rattle.device_server.specs.Rows.{asked, gives, checks, selects}
-use Rattle.device_server.specs.ChangerRows.{cartridge, no_command, wrong_field, source_empty, move}
+use Rattle.device_server.specs.ChangerRows.{cartridge, no_command, wrong_field, no_element, source_empty, move}
 
 -- the changer of library 1A2B3C4Dh
 abbrev pub changer_identity : UnitIdentity
@@ -83,3 +83,10 @@ pub record AnswersOfAHostsChanger (a : VolumeTag) : Type 0 where
       (0x00 ∷ 0x03 ∷ 0x00 ∷ 0x0C ∷ 0xA5 ∷ 0x00 ∷ 0xFF ∷ 0xFF ∷ 0xFF ∷ 0xFF ∷ 0xFF ∷ 0xFF ∷ 0x00 ∷ 0x00 ∷ 0x01 ∷ 0x04 ∷ [])
   pub task_management : asked (one_volume a) (Host (ReportSupportedTaskManagementFunctions false 4)) ≡ gives (one_volume a) (0xCA ∷ 0x00 ∷ 0x00 ∷ 0x00 ∷ [])
   pub self_test : asked (one_volume a) (Host (SendDiagnostic 0 true 0)) ≡ gives (one_volume a) []
+  pub at_a_slot : asked (one_volume a) (Host (PositionToElement 0 0x402 false)) ≡ gives (one_volume a) []
+  pub at_the_drive : asked (one_volume a) (Host (PositionToElement 0 0x100 false)) ≡ gives (one_volume a) []
+  pub at_the_transport : asked (one_volume a) (Host (PositionToElement 0 0 false)) ≡ checks (one_volume a) [] no_element
+  pub past_the_last_slot : asked (one_volume a) (Host (PositionToElement 0 0x403 false)) ≡ checks (one_volume a) [] no_element
+  pub by_another_transport : asked (one_volume a) (Host (PositionToElement 1 0x402 false)) ≡ checks (one_volume a) [] no_element
+  pub turned_over : asked (one_volume a) (Host (PositionToElement 1 0x403 true)) ≡ checks (one_volume a) [] wrong_field
+  pub initialized : asked (one_volume a) (Host (InitializeElementStatusWithRange true true 0x700 0)) ≡ gives (one_volume a) []

@@ -2,12 +2,12 @@
 use Rattle.std.specs.Prelude.{ℕ, ◌-◌, ◌==◌, Bool, true, false, not, ◌&&◌, ◌||◌, List, [], length, take, Option, Some, None, is_some, Result, Ok, Err, if◌then◌else◌}
 use Rattle.std.specs.Option.{option_map}
 use Rattle.scsi_cdb.specs.declared.host_request.HostRequest.{HostRequest}
-use Rattle.scsi_cdb.specs.declared.host_request.HostRequest.TheVariants.{SendDiagnostic, LogSelect, LogSense, ModeSelect10, ModeSense10, ReportSupportedOperationCodes, ReportSupportedTaskManagementFunctions}
+use Rattle.scsi_cdb.specs.declared.host_request.HostRequest.TheVariants.{SendDiagnostic, LogSelect, LogSense, ModeSelect10, ModeSense10, ReportSupportedOperationCodes, ReportSupportedTaskManagementFunctions, PositionToElement, InitializeElementStatusWithRange}
 use Rattle.scsi_cdb.specs.declared.kind.Kind.TheVariants as kind
 use Rattle.scsi_cdb.specs.declared.request.Request.{Request}
 use Rattle.scsi_cdb.specs.declared.request.Request.TheVariants.{ReadBlockLimits, Read, Write, ModeSelect, ModeSense, LoadUnload, Host}
 use Rattle.scsi_sense.specs.declared.condition.Condition.{Condition}
-use Rattle.scsi_sense.specs.declared.condition.Condition.TheVariants.{MediumNotPresent, InitializingCommandRequired}
+use Rattle.scsi_sense.specs.declared.condition.Condition.TheVariants.{MediumNotPresent, InitializingCommandRequired, InvalidCommandOperationCode}
 use Rattle.tape_medium.specs.Limits.{block_limit}
 use Rattle.tape_medium.specs.Tape.{bytes_in, behind}
 use Rattle.tape_medium.specs.TapeView.{TapeView}
@@ -112,7 +112,7 @@ host_log_selects d h (Err condition) = (d, refused condition)
 host_log_selects d h (Ok change) =
     (record d { hosts = Some (record h { counters = counters.after h.counters change }) }, tells (told_of_log change))
 
--- THE COMMANDS that only the hosts' profile has
+-- THE COMMANDS that only the hosts' profile has, of which two are a changer's
 abbrev pub host_command_step : DriveView → HostDrive → HostRequest → List ℕ → DriveView × Outcome
 host_command_step d h (SendDiagnostic code self_test list_length) bytes = (d, done [])
 host_command_step d h (LogSelect pcr sp control page subpage list_length) bytes =
@@ -125,6 +125,8 @@ host_command_step d h (ModeSense10 dbd control page subpage allocation_length) b
 host_command_step d h (ReportSupportedOperationCodes rctd options code action allocation_length) bytes =
     (d, answers allocation_length (codes_answer kind.Drive rctd (options_at options) code action))
 host_command_step d h (ReportSupportedTaskManagementFunctions repd allocation_length) bytes = (d, done (take allocation_length (task_management repd)))
+host_command_step d h (PositionToElement transport destination invert) bytes = (d, refused InvalidCommandOperationCode)
+host_command_step d h (InitializeElementStatusWithRange fast range start count) bytes = (d, refused InvalidCommandOperationCode)
 
 -- THE STEP of a drive of the hosts' profile by a command whose fields aren't refused
 abbrev pub host_drive_step : DriveView → HostDrive → Request → List ℕ → DriveView × Outcome

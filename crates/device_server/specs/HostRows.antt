@@ -1,6 +1,6 @@
 -- Worked rows: what a host gets from a drive of the hosts' profile, byte by byte, and the drive after it.
 use Rattle.std.specs.Prelude.{◌≡◌, ℕ, true, false, List, [], ◌∷◌, ◌++◌, length, replicate, Some, None}
-use Rattle.scsi_cdb.specs.declared.host_request.HostRequest.TheVariants.{SendDiagnostic, LogSelect, LogSense, ModeSelect10, ModeSense10, ReportSupportedOperationCodes, ReportSupportedTaskManagementFunctions}
+use Rattle.scsi_cdb.specs.declared.host_request.HostRequest.TheVariants.{SendDiagnostic, LogSelect, LogSense, ModeSelect10, ModeSense10, ReportSupportedOperationCodes, ReportSupportedTaskManagementFunctions, PositionToElement, InitializeElementStatusWithRange}
 use Rattle.scsi_cdb.specs.declared.profile.Profile.TheVariants.{Hosts}
 use Rattle.scsi_cdb.specs.declared.request.Request.TheVariants.{TestUnitReady, ReadBlockLimits, Read, Write, WriteFilemarks, ModeSelect, ModeSense, LoadUnload, Locate, ReadPosition, Host}
 use Rattle.tape_medium.specs.Object.{Block, Mark}
@@ -54,6 +54,9 @@ empty = Drive (empty_host_drive first_drive)
 
 abbrev pub wrong_field : List ℕ
 wrong_field = sense 0x70 0x05 0x00 0x00 0x00 0x00 0x24 0x00
+
+abbrev pub no_command : List ℕ
+no_command = sense 0x70 0x05 0x00 0x00 0x00 0x00 0x20 0x00
 
 -- a volume that is ejected is as none, one that is held isn't ready, and the others are told of one that is loaded
 pub record ReadinessForHosts (tag : VolumeTag) : Type 0 where
@@ -175,3 +178,5 @@ pub record CommandsForHosts : Type 0 where
   pub self_test : asked empty (Host (SendDiagnostic 0 true 0)) ≡ gives empty []
   pub other_self_test : asked empty (Host (SendDiagnostic 1 false 0)) ≡ checks empty [] wrong_field
   pub page_sent : asked empty (Host (SendDiagnostic 0 false 4)) ≡ checks empty [] wrong_field
+  pub positioned : asked empty (Host (PositionToElement 0 0x100 false)) ≡ checks empty [] no_command
+  pub initialized : asked empty (Host (InitializeElementStatusWithRange false true 0x100 1)) ≡ checks empty [] no_command

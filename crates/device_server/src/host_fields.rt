@@ -157,7 +157,9 @@ fn host_command_fault(kind: Kind, command: &HostRequest, bytes: &[u8]) -> Option
             *requested_operation_code,
             *requested_service_action,
         ),
-        HostRequest::ReportSupportedTaskManagementFunctions { .. } => None,
+        HostRequest::PositionToElement { invert, .. } => invalid_where(*invert),
+        HostRequest::ReportSupportedTaskManagementFunctions { .. }
+        | HostRequest::InitializeElementStatusWithRange { .. } => None,
     }
 }
 

@@ -48,6 +48,13 @@ impl Elements {
         }
     }
 
+    /// Whether an address is that of an element that can hold a volume: a data transfer, import/export or storage element.
+    pub fn can_hold(&self, address: u16) -> bool
+        ensures { result ≡ is_some (tag_held self.now (element_at self.now address)) }
+    {
+        self.tag_held(address).is_some()
+    }
+
     /// Whether there is a volume in a storage or import/export element, none for any other address.
     fn is_full(&self, address: u16) -> Option<bool>
         ensures { result ≡ option_map is_some (held_in self.now (element_at self.now address)) }

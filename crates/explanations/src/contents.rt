@@ -101,7 +101,9 @@ fn contents_of_host_request(request: HostRequest) -> Contents
         HostRequest::ReportSupportedTaskManagementFunctions { .. } => Contents::TaskManagement,
         HostRequest::SendDiagnostic { .. }
         | HostRequest::LogSelect { .. }
-        | HostRequest::ModeSelect10 { .. } => Contents::Other,
+        | HostRequest::ModeSelect10 { .. }
+        | HostRequest::PositionToElement { .. }
+        | HostRequest::InitializeElementStatusWithRange { .. } => Contents::Other,
     }
 }
 

@@ -157,6 +157,8 @@ command_fits k (host.ModeSelect10 sp l) bytes = selected_fits default_values blo
 command_fits k (host.ModeSense10 dbd pc page subpage l) bytes = mode_sense_fits k (mode_sense Ten dbd pc page subpage)
 command_fits k (host.ReportSupportedOperationCodes rctd options code action l) bytes = codes_fit k rctd (options_at options) code action
 command_fits k (host.ReportSupportedTaskManagementFunctions repd l) bytes = tt
+command_fits k (host.PositionToElement transport destination invert) bytes = where_fits class.PositionToElement invert refl
+command_fits k (host.InitializeElementStatusWithRange fast range start count) bytes = tt
 
 -- READ ELEMENT STATUS has a class of its own with CURDATA
 status_fits : (curdata wrong : Bool) → IsFaultIf (cond curdata class.ReadElementStatusCurdata class.ReadElementStatus) (cond wrong (Some InvalidFieldInCdb) None)

@@ -162,6 +162,8 @@ host_command_quiet ty ro closed d h (host.ModeSelect10 sp l) bytes lets = barred
 host_command_quiet ty ro closed d h (host.ModeSense10 dbd pc page subpage l) bytes lets = record { same = refl; steady = answers_steady l _ }
 host_command_quiet ty ro closed d h (host.ReportSupportedOperationCodes rctd options code action l) bytes lets = record { same = refl; steady = answers_steady l _ }
 host_command_quiet ty ro closed d h (host.ReportSupportedTaskManagementFunctions repd l) bytes lets = record { same = refl; steady = refl }
+host_command_quiet ty ro closed d h (host.PositionToElement transport destination invert) bytes lets = record { same = refl; steady = refl }
+host_command_quiet ty ro closed d h (host.InitializeElementStatusWithRange fast range start count) bytes lets = record { same = refl; steady = refl }
 
 host_drive_quiet : (ty : ResType) (ro : Role) → Shut ty ro → (d : DriveView) (h : HostDrive) (r : Request) (bytes : List ℕ) → d.hosts ≡ Some h → Let ty ro r → Quiet d (host_drive_step d h r bytes)
 host_drive_quiet ty ro s d h request.ReadBlockLimits bytes is lets = record { same = refl; steady = refl }
@@ -179,6 +181,8 @@ changer_command_steady ty ro closed e (host.ModeSelect10 sp l) bytes lets = refl
 changer_command_steady ty ro closed e (host.ModeSense10 dbd pc page subpage l) bytes lets = answers_steady l _
 changer_command_steady ty ro closed e (host.ReportSupportedOperationCodes rctd options code action l) bytes lets = answers_steady l _
 changer_command_steady ty ro closed e (host.ReportSupportedTaskManagementFunctions repd l) bytes lets = refl
+changer_command_steady ty ro closed e (host.PositionToElement transport destination invert) bytes lets = barred _ lets closed
+changer_command_steady ty ro closed e (host.InitializeElementStatusWithRange fast range start count) bytes lets = refl
 
 host_changer_quiet : (ty : ResType) (ro : Role) → row_allows Changing ty ro ≡ false → (c : ChangerView) (h : HostChanger) (r : Request) (bytes : List ℕ) → Let ty ro r → Quiet c (host_changer_step c h r bytes)
 host_changer_quiet ty ro closed c h request.TestUnitReady bytes lets = record { same = refl; steady = refl }

@@ -75,4 +75,7 @@ pub record PermissionRows : Type 0 where
   pub operation_codes_eaar : is_allowed class.ReportSupportedOperationCodes Eaar Other ≡ false
   pub task_management_ea : is_allowed class.ReportSupportedTaskManagementFunctions Ea Registered ≡ false
   pub self_test_we : is_allowed class.SendDiagnostic We Other ≡ false
+  pub position_ea : is_allowed class.PositionToElement Ea Registered ≡ false
+  pub position_wear : is_allowed class.PositionToElement Wear Other ≡ false
+  pub position_wero : is_allowed class.PositionToElement Wero Registered ≡ true
   pub text : cell_text (record { class = class.ModeSense; res_type = Earo; role = Registered }) ≡ codes "MODE-SENSE(6)/EARO/REGISTERED"

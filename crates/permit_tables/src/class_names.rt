@@ -46,5 +46,6 @@ pub fn class_text(class: Class) -> &'static str
         Class::ModeSense10 => "MODE-SENSE(10)",
         Class::ReportSupportedOperationCodes => "REPORT-OPCODES",
         Class::ReportSupportedTaskManagementFunctions => "REPORT-TASK-MANAGEMENT",
+        Class::PositionToElement => "POSITION-TO-ELEMENT",
     }
 }

@@ -62,7 +62,8 @@ pub fn word(class: Class) -> u32
         | Class::InitializeElementStatus
         | Class::ModeSelect10
         | Class::LogSelect
-        | Class::SendDiagnostic => WRITERS,
+        | Class::SendDiagnostic
+        | Class::PositionToElement => WRITERS,
         Class::Clear | Class::Preempt | Class::PreemptAndAbort | Class::Release => REGISTRANTS,
         Class::Reserve | Class::RegisterAndMove => HOLDERS,
     }

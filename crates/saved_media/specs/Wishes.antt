@@ -46,6 +46,7 @@ wish_of class.ModeSelect10 immediate = Nothing
 wish_of class.ModeSense10 immediate = Nothing
 wish_of class.ReportSupportedOperationCodes immediate = Nothing
 wish_of class.ReportSupportedTaskManagementFunctions immediate = Nothing
+wish_of class.PositionToElement immediate = Nothing
 
 -- whether the reply waits
 abbrev pub is_waited_for : Wish → Bool

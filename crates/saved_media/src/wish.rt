@@ -61,6 +61,7 @@ pub(crate) fn wish_of(class: Class, is_immediate: bool) -> Wish
         | Class::ModeSelect10
         | Class::ModeSense10
         | Class::ReportSupportedOperationCodes
-        | Class::ReportSupportedTaskManagementFunctions => Wish::Nothing,
+        | Class::ReportSupportedTaskManagementFunctions
+        | Class::PositionToElement => Wish::Nothing,
     }
 }

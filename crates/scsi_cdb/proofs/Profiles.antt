@@ -1,9 +1,8 @@
 -- The hosts' profile decodes what the default one decodes: it has each of its commands, with the same fields where that has any.
-use Rattle.std.proofs.Common.{◌≡◌, ◌==◌, ◌-◌, ℕ, Bool, true, false, cond, List, [], ◌∷◌, length, Option, Some, None, Result, Ok, Err, refl, sym, ap, ◌∙◌}
+use Rattle.std.proofs.Common.{◌≡◌, ◌==◌, ◌-◌, ◌&&◌, ℕ, Bool, true, false, cond, List, [], ◌∷◌, length, Option, Some, None, Result, Ok, Err, refl, sym, ap, ◌∙◌}
 use Rattle.std.specs.Prelude.{nat_lt}
-use Rattle.std.specs.List.{find}
 use Rattle.scsi_cdb.specs.Bits.{bit, bits, byte}
-use Rattle.scsi_cdb.specs.Commands.{Row, Units, table, command_of, where_had, has, naca, checked, read_as, read_position, decoded}
+use Rattle.scsi_cdb.specs.Commands.{Row, Units, table, command_of, had, has, naca, checked, read_as, read_position, decoded}
 use Rattle.scsi_cdb.specs.Profiles.{HostsDecodeWhatSpecDecodes}
 use Rattle.scsi_cdb.specs.declared.fault.CdbFault.{CdbFault}
 use Rattle.scsi_cdb.specs.declared.fault.CdbFault.TheVariants.{ShortCdb}
@@ -46,20 +45,21 @@ by_test x y o p false false e here rest = rest
 by_test x y o p true false e here rest = absurd cc
 by_test x y o p false true e here rest = absurd cc
 
-found : (xs ys : List Row) (code : ℕ) → AllRead xs ys → ReadsIf (find (λ (r : Row). r.opcode == code) xs) (find (λ (r : Row). r.opcode == code) ys)
-found [] ys code all = tt
-found (x ∷ xs) [] code all = absurd all
-found (x ∷ xs) (y ∷ ys) code all =
-    by_test x y (find (λ (r : Row). r.opcode == code) xs) (find (λ (r : Row). r.opcode == code) ys) (x.opcode == code) (y.opcode == code)
-    (ap (λ (k : ℕ). k == code) all.0.opcode) all.0 (found xs ys code all.1)
+found : (xs ys : List Row) (kind : Kind) (code : ℕ) → AllRead xs ys → ReadsIf (had kind code xs) (had kind code ys)
+found [] ys kind code all = tt
+found (x ∷ xs) [] kind code all = absurd all
+found (x ∷ xs) (y ∷ ys) kind code all =
+    by_test x y (had kind code xs) (had kind code ys) (x.opcode == code && has x.units kind) (y.opcode == code && has y.units kind)
+    (ap (λ (k : ℕ). k == code && has y.units kind) all.0.opcode ∙ ap (λ (u : Units). x.opcode == code && has u kind) all.0.units) all.0
+    (found xs ys kind code all.1)
 
 -- the two tables
 each_row : AllRead (table Spec) (table Hosts)
 each_row = (same _, (same _, (same _, (same _, (same _, (same _, (same _, (same _, (same _, (same _, (same _, (same _, (same _, (same _, (same _, (same _, (record { opcode = refl; size = refl; units = refl; fields = λ c q h. positions (bits c 1 4 0) q h }, (same _, (same _, (same _, (same _, (same _, tt))))))))))))))))))))))
 
-of_command : (code : ℕ) → ReadsIf (command_of Spec code) (command_of Hosts code)
+of_command : (kind : Kind) (code : ℕ) → ReadsIf (command_of Spec kind code) (command_of Hosts kind code)
 unfolding command_of
-of_command code = found (table Spec) (table Hosts) code each_row
+of_command kind code = found (table Spec) (table Hosts) kind code each_row
 
 -- WHAT IS READ by a row that is found
 check : (x y : Bool) (o p : Option Request) (r : Request) → y ≡ x → ((q : Request) → o ≡ Some q → p ≡ Some q) → checked x o ≡ Ok r → checked y p ≡ Ok r
@@ -79,21 +79,11 @@ long false false a b cdb r e reads h =
 long true false a b cdb r e reads h = absurd cc
 long false true a b cdb r e reads h = absurd cc
 
-abbrev if_had : Bool → Row → Option Row
-if_had had a = cond had (Some a) None
-
-had : (x y : Bool) (a b : Row) (cdb : List ℕ) (r : Request) → y ≡ x → Reads a b → read_as (if_had x a) cdb ≡ Ok r → read_as (if_had y b) cdb ≡ Ok r
-had true true a b cdb r e reads h =
+read : (o p : Option Row) (cdb : List ℕ) (r : Request) → ReadsIf o p → read_as o cdb ≡ Ok r → read_as p cdb ≡ Ok r
+read None p cdb r reads h = absurd cc
+read (Some a) None cdb r reads h = absurd reads
+read (Some a) (Some b) cdb r reads h =
     long (nat_lt (length cdb) a.length) (nat_lt (length cdb) b.length) a b cdb r (ap (λ (n : ℕ). nat_lt (length cdb) n) reads.size) reads h
-had false false a b cdb r e reads h = absurd cc
-had true false a b cdb r e reads h = absurd cc
-had false true a b cdb r e reads h = absurd cc
-
-read : (kind : Kind) (o p : Option Row) (cdb : List ℕ) (r : Request) → ReadsIf o p → read_as (where_had kind o) cdb ≡ Ok r → read_as (where_had kind p) cdb ≡ Ok r
-read kind None p cdb r reads h = absurd cc
-read kind (Some a) None cdb r reads h = absurd reads
-read kind (Some a) (Some b) cdb r reads h =
-    had (has a.units kind) (has b.units kind) a b cdb r (ap (λ (u : Units). has u kind) reads.units) reads h
 
 any : (none : Bool) (x y : Result Request CdbFault) (r : Request) → (x ≡ Ok r → y ≡ Ok r) → cond none (Err ShortCdb) x ≡ Ok r → cond none (Err ShortCdb) y ≡ Ok r
 any true x y r both h = absurd cc
@@ -101,5 +91,5 @@ any false x y r both h = both h
 
 pub hosts_decode : HostsDecodeWhatSpecDecodes
 hosts_decode kind cdb r h =
-    any (length cdb == 0) (read_as (where_had kind (command_of Spec (byte cdb 0))) cdb) (read_as (where_had kind (command_of Hosts (byte cdb 0))) cdb) r
-    (read kind (command_of Spec (byte cdb 0)) (command_of Hosts (byte cdb 0)) cdb r (of_command (byte cdb 0))) h
+    any (length cdb == 0) (read_as (command_of Spec kind (byte cdb 0)) cdb) (read_as (command_of Hosts kind (byte cdb 0)) cdb) r
+    (read (command_of Spec kind (byte cdb 0)) (command_of Hosts kind (byte cdb 0)) cdb r (of_command kind (byte cdb 0))) h

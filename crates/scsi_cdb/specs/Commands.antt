@@ -1,8 +1,8 @@
 -- The commands (SPC-4, SSC-4, SMC-3): for each its operation code, the length of its CDB, the units that
 -- have it, and its fields.
-use Rattle.std.specs.Prelude.{ℕ, ◌-◌, ◌==◌, nat_lt, Bool, true, false, List, [], ◌∷◌, length, Option, Some, None, Result, Ok, Err, if◌then◌else◌, find}
+use Rattle.std.specs.Prelude.{ℕ, ◌-◌, ◌==◌, ◌&&◌, nat_lt, Bool, true, false, List, [], ◌∷◌, length, Option, Some, None, Result, Ok, Err, if◌then◌else◌, find}
 use Rattle.scsi_cdb.specs.Bits.{bit, bits, byte, two_bytes, three_bytes, four_bytes, signed_three_bytes}
-use Rattle.scsi_cdb.specs.HostCommands.{send_diagnostic, log_select, log_sense, mode_select_10, mode_sense_10, maintenance_in}
+use Rattle.scsi_cdb.specs.HostCommands.{send_diagnostic, log_select, log_sense, mode_select_10, mode_sense_10, maintenance_in, position_to_element, initialize_with_range}
 use Rattle.scsi_cdb.specs.declared.action.InServiceAction.{InServiceAction}
 use Rattle.scsi_cdb.specs.declared.action.InServiceAction.TheVariants as in_act
 use Rattle.scsi_cdb.specs.ServiceActions.{out_service_action}
@@ -73,6 +73,8 @@ abbrev pub host_rows : Profile → List Row
 host_rows Spec = []
 host_rows Hosts =
     row 0x1D 6 Both (λ c. Some (Host (send_diagnostic c)))
+    ∷ row 0x2B 10 Changers (λ c. Some (Host (position_to_element c)))
+    ∷ row 0x37 10 Changers (λ c. Some (Host (initialize_with_range c)))
     ∷ row 0x4C 10 Both (λ c. Some (Host (log_select c)))
     ∷ row 0x4D 10 Both (λ c. Some (Host (log_sense c)))
     ∷ row 0x55 10 Drives (λ c. Some (Host (mode_select_10 c)))
@@ -108,16 +110,13 @@ table profile =
     (bit c 1 4) (bits c 1 3 0) (two_bytes c 2) (two_bytes c 4) (bit c 6 1) (bit c 6 0) (three_bytes c 7)))
     ∷ host_rows profile
 
--- the command of an operation code, and that command where units of the kind have it
-unfoldable pub command_of : Profile → ℕ → Option Row
-command_of profile opcode = find (λ (r : Row). r.opcode == opcode) (table profile)
+-- the command of an operation code that units of a kind have, among some: 2Bh is one of drives, and another one of changers
+abbrev pub had : Kind → ℕ → List Row → Option Row
+had kind opcode rows = find (λ (r : Row). r.opcode == opcode && has r.units kind) rows
 
-abbrev pub where_had : Kind → Option Row → Option Row
-where_had kind None = None
-where_had kind (Some r) = if has r.units kind then Some r else None
-
-abbrev pub row_of : Profile → Kind → ℕ → Option Row
-row_of profile kind opcode = where_had kind (command_of profile opcode)
+-- and among those of a profile
+unfoldable pub command_of : Profile → Kind → ℕ → Option Row
+command_of profile kind opcode = had kind opcode (table profile)
 
 abbrev pub fields_in : Option Row → List ℕ → Option Request
 fields_in None cdb = None
@@ -143,4 +142,4 @@ read_as (Some r) cdb = if nat_lt (length cdb) r.length then Err ShortCdb else ch
 
 -- the request that a CDB decodes to for a unit with these commands, or the first fault in order
 abbrev pub decoded : CommandSet → List ℕ → Result Request CdbFault
-decoded commands cdb = if length cdb == 0 then Err ShortCdb else read_as (row_of commands.profile commands.kind (byte cdb 0)) cdb
+decoded commands cdb = if length cdb == 0 then Err ShortCdb else read_as (command_of commands.profile commands.kind (byte cdb 0)) cdb

@@ -1,12 +1,15 @@
 -- The bytes of a request: what is no field of it is zero.
-use Rattle.std.specs.Prelude.{◌≡◌, ℕ, ◌+◌, ◌-◌, ◌%◌, ◌^◌, ◌<◌, ℤ, pos, negsuc, ◌<ℤ◌, ◌≤ℤ◌, neg_ℤ, List, [], ◌∷◌, ◌++◌, slice_index, IsSome, Ok}
+use Rattle.std.specs.Prelude.{◌≡◌, ℕ, ◌+◌, ◌-◌, ◌%◌, ◌^◌, ◌<◌, Bool, true, false, ℤ, pos, negsuc, ◌<ℤ◌, ◌≤ℤ◌, neg_ℤ, List, [], ◌∷◌, ◌++◌, slice_index, IsSome, Ok}
 use Rattle.scsi_cdb.specs.Bytes.{at, from, two, three, four, padded}
-use Rattle.scsi_cdb.specs.Commands.{row_of, decoded}
+use Rattle.scsi_cdb.specs.Commands.{command_of, decoded}
 use Rattle.scsi_cdb.specs.HostCommands.{host_encoded, HostFits}
 use Rattle.scsi_cdb.specs.declared.profile.CommandSet.{CommandSet}
 use Rattle.scsi_cdb.specs.declared.action.InServiceAction.{InServiceAction}
 use Rattle.scsi_cdb.specs.declared.action.InServiceAction.TheVariants as in_act
 use Rattle.scsi_cdb.specs.ServiceActions.{out_code}
+use Rattle.scsi_cdb.specs.declared.host_request.HostRequest.TheVariants.{PositionToElement}
+use Rattle.scsi_cdb.specs.declared.kind.Kind.{Kind}
+use Rattle.scsi_cdb.specs.declared.kind.Kind.TheVariants.{Drive, Changer}
 use Rattle.scsi_cdb.specs.declared.request.Request.{Request}
 use Rattle.scsi_cdb.specs.declared.request.Request.TheVariants.{TestUnitReady, Rewind, RequestSense, ReadBlockLimits, InitializeElementStatus, Read, Write, WriteFilemarks, Space, Inquiry, ModeSelect, Erase, ModeSense, LoadUnload, PreventAllowMediumRemoval, Locate, ReadPosition, PersistentReserveIn, PersistentReserveOut, ReportLuns, MoveMedium, ReadElementStatus, Host}
 
@@ -70,9 +73,16 @@ Fits (ReadElementStatus voltag type_code start count curdata dvcid n) = (type_co
 Fits (Host request) = HostFits request
 Fits _ = Unit {0}
 
+-- whether the operation code of a request is of its command, at units of a kind: 2Bh is of LOCATE(10) at drives, and of POSITION TO ELEMENT
+-- at changers
+abbrev pub is_code_at : Kind → Request → Bool
+is_code_at Changer (Locate bt cp n partition) = false
+is_code_at Drive (Host (PositionToElement transport destination invert)) = false
+is_code_at kind r = true
+
 -- the request's command is one of these
 abbrev pub IsOf : CommandSet → Request → Type 0
-IsOf commands r = IsSome (row_of commands.profile commands.kind (slice_index (encoded r) 0))
+IsOf commands r = IsSome (command_of commands.profile commands.kind (slice_index (encoded r) 0)) × (is_code_at commands.kind r ≡ true)
 
 -- what is written is read again, by a unit that has the command
 abbrev pub ReadsBack : Type 0

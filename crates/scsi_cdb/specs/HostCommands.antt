@@ -1,11 +1,11 @@
--- The commands that only the hosts' profile has (SPC-4): what a CDB of each says, its class, and its bytes.
-use Rattle.std.specs.Prelude.{ℕ, ◌+◌, ◌==◌, ◌<◌, ◌^◌, List, ◌∷◌, ◌++◌, Option, Some, None, if◌then◌else◌}
+-- The commands that only the hosts' profile has (SPC-4, SMC-3): what a CDB of each says, its class, and its bytes.
+use Rattle.std.specs.Prelude.{ℕ, ◌+◌, ◌==◌, ◌<◌, ◌^◌, List, [], ◌∷◌, ◌++◌, Option, Some, None, if◌then◌else◌}
 use Rattle.scsi_cdb.specs.Bits.{bit, bits, byte, two_bytes, four_bytes}
 use Rattle.scsi_cdb.specs.Bytes.{at, from, two, four, padded}
 use Rattle.scsi_cdb.specs.declared.classes.Class.{Class}
 use Rattle.scsi_cdb.specs.declared.classes.Class.TheVariants as class
 use Rattle.scsi_cdb.specs.declared.host_request.HostRequest.{HostRequest}
-use Rattle.scsi_cdb.specs.declared.host_request.HostRequest.TheVariants.{SendDiagnostic, LogSelect, LogSense, ModeSelect10, ModeSense10, ReportSupportedOperationCodes, ReportSupportedTaskManagementFunctions}
+use Rattle.scsi_cdb.specs.declared.host_request.HostRequest.TheVariants.{SendDiagnostic, LogSelect, LogSense, ModeSelect10, ModeSense10, ReportSupportedOperationCodes, ReportSupportedTaskManagementFunctions, PositionToElement, InitializeElementStatusWithRange}
 
 -- WHAT A CDB SAYS: its bytes are c
 abbrev pub send_diagnostic : List ℕ → HostRequest
@@ -29,6 +29,12 @@ supported_operation_codes c = ReportSupportedOperationCodes (bit c 2 7) (bits c 
 abbrev pub supported_task_management : List ℕ → HostRequest
 supported_task_management c = ReportSupportedTaskManagementFunctions (bit c 2 7) (four_bytes c 6)
 
+abbrev pub position_to_element : List ℕ → HostRequest
+position_to_element c = PositionToElement (two_bytes c 2) (two_bytes c 4) (bit c 8 0)
+
+abbrev pub initialize_with_range : List ℕ → HostRequest
+initialize_with_range c = InitializeElementStatusWithRange (bit c 1 1) (bit c 1 0) (two_bytes c 2) (two_bytes c 6)
+
 -- the service actions of MAINTENANCE IN
 abbrev pub maintenance_in : (service_action : ℕ) → List ℕ → Option HostRequest
 maintenance_in service_action c =
@@ -36,7 +42,7 @@ maintenance_in service_action c =
     else if service_action == 0x0D then Some (supported_task_management c)
     else None
 
--- THE CLASS of each: a class of its own
+-- THE CLASS of each: a class of its own, but INITIALIZE ELEMENT STATUS WITH RANGE has that of INITIALIZE ELEMENT STATUS (profile)
 abbrev pub host_class_of : HostRequest → Class
 host_class_of (SendDiagnostic code test n) = class.SendDiagnostic
 host_class_of (LogSelect pcr sp pc page subpage n) = class.LogSelect
@@ -45,6 +51,8 @@ host_class_of (ModeSelect10 sp n) = class.ModeSelect10
 host_class_of (ModeSense10 dbd pc page subpage n) = class.ModeSense10
 host_class_of (ReportSupportedOperationCodes rctd options code action n) = class.ReportSupportedOperationCodes
 host_class_of (ReportSupportedTaskManagementFunctions repd n) = class.ReportSupportedTaskManagementFunctions
+host_class_of (PositionToElement transport destination invert) = class.PositionToElement
+host_class_of (InitializeElementStatusWithRange fast range start count) = class.InitializeElementStatus
 
 -- THE BYTES of each in their order
 abbrev pub host_encoded : HostRequest → List ℕ
@@ -59,6 +67,10 @@ host_encoded (ModeSense10 dbd pc page subpage n) =
 host_encoded (ReportSupportedOperationCodes rctd options code action n) =
     padded (0xA3 ∷ 0x0C ∷ (at 7 rctd + from 2 0 options) ∷ code ∷ (two action ++ four n))
 host_encoded (ReportSupportedTaskManagementFunctions repd n) = padded (0xA3 ∷ 0x0D ∷ at 7 repd ∷ 0 ∷ 0 ∷ 0 ∷ four n)
+host_encoded (PositionToElement transport destination invert) =
+    padded (0x2B ∷ 0 ∷ (two transport ++ two destination ++ 0 ∷ 0 ∷ at 0 invert ∷ []))
+host_encoded (InitializeElementStatusWithRange fast range start count) =
+    padded (0x37 ∷ (at 1 fast + at 0 range) ∷ (two start ++ 0 ∷ 0 ∷ two count))
 
 -- the fields fit their bits
 abbrev pub HostFits : HostRequest → Type 0
@@ -69,3 +81,5 @@ HostFits (ModeSelect10 sp n) = n < 2 ^ 16
 HostFits (ModeSense10 dbd pc page subpage n) = (pc < 2 ^ 2) × (page < 2 ^ 6) × (subpage < 2 ^ 8) × (n < 2 ^ 16)
 HostFits (ReportSupportedOperationCodes rctd options code action n) = (options < 2 ^ 3) × (code < 2 ^ 8) × (action < 2 ^ 16) × (n < 2 ^ 32)
 HostFits (ReportSupportedTaskManagementFunctions repd n) = n < 2 ^ 32
+HostFits (PositionToElement transport destination invert) = (transport < 2 ^ 16) × (destination < 2 ^ 16)
+HostFits (InitializeElementStatusWithRange fast range start count) = (start < 2 ^ 16) × (count < 2 ^ 16)

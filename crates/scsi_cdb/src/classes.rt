@@ -46,4 +46,5 @@ pub enum Class {
     ModeSense10,
     ReportSupportedOperationCodes,
     ReportSupportedTaskManagementFunctions,
+    PositionToElement,
 }

@@ -1,6 +1,6 @@
-ghost use Rattle.std.specs.Prelude.{◌≡◌, ◌/◌, ◌<◌, ◌≤◌, length, IfSome, IfOk, is_some};
+ghost use Rattle.std.specs.Prelude.{◌≡◌, ◌/◌, ◌<◌, ◌≤◌, true, length, IfSome, IfOk, is_some};
 ghost use Rattle.std.specs.Option.{option_map};
-ghost use Rattle.scsi_cdb.specs.Commands.{Row, command_of, row_of, fields_in, length_of_group, decoded};
+ghost use Rattle.scsi_cdb.specs.Commands.{Row, command_of, fields_in, length_of_group, decoded};
 ghost use Rattle.scsi_cdb.specs.Encoding.{Fits};
 
 use crate::changer::{move_medium_at, read_element_status_at};
@@ -32,7 +32,7 @@ pub fn decode(commands: CommandSet, cdb: &[u8]) -> Result<Request, CdbFault>
     if cdb.len() < length {
         return Err(CdbFault::ShortCdb);
     }
-    let request = fields_of(profile, opcode, cdb).ok_or(CdbFault::ServiceAction)?;
+    let request = fields_of(profile, kind, opcode, cdb).ok_or(CdbFault::ServiceAction)?;
     if bit_at(cdb, length - 1, NACA_BIT) {
         return Err(CdbFault::Naca);
     }
@@ -42,7 +42,7 @@ pub fn decode(commands: CommandSet, cdb: &[u8]) -> Result<Request, CdbFault>
 /// The length of a CDB, where units of the kind have the command.
 #[tactic(auto, using(crate::proofs::GroupCodes::length_where_had, crate::proofs::GroupCodes::no_length))]
 fn length_of(profile: Profile, kind: Kind, opcode: u8) -> Option<usize>
-    ensures length { result ≡ option_map (λ (r : Row). r.length) (row_of profile kind opcode) }
+    ensures length { result ≡ option_map (λ (r : Row). r.length) (command_of profile kind opcode) }
     ensures some { IfSome result (λ n. 0 < n) }
 {
     if has_command(profile, kind, opcode) {
@@ -55,7 +55,7 @@ fn length_of(profile: Profile, kind: Kind, opcode: u8) -> Option<usize>
 /// Whether units of the kind have the command.
 #[tactic(auto, unfolding(crate::specs::Commands::command_of))]
 fn has_command(profile: Profile, kind: Kind, opcode: u8) -> bool
-    ensures { result ≡ is_some (row_of profile kind opcode) }
+    ensures { result ≡ is_some (command_of profile kind opcode) }
 {
     match opcode {
         TEST_UNIT_READY
@@ -76,8 +76,8 @@ fn has_command(profile: Profile, kind: Kind, opcode: u8) -> bool
         | MODE_SELECT_6
         | ERASE_6
         | LOAD_UNLOAD
-        | LOCATE_10
         | READ_POSITION => kind == Kind::Drive,
+        LOCATE_10 => kind == Kind::Drive || profile == Profile::Hosts,
         _ => match profile {
             Profile::Spec => false,
             Profile::Hosts => has_host_command(kind, opcode),
@@ -99,9 +99,10 @@ fn length_by_group(opcode: u8) -> usize
 
 /// What a CDB of the command says, where its service action is one of the command's own.
 #[tactic(auto, unfolding(crate::specs::Commands::command_of))]
-fn fields_of(profile: Profile, opcode: u8, cdb: &[u8]) -> Option<Request>
-    requires { IfSome (command_of profile opcode) (λ (r : Row). r.length ≤ length cdb.now) }
-    ensures value { result ≡ fields_in (command_of profile opcode) cdb.now }
+fn fields_of(profile: Profile, kind: Kind, opcode: u8, cdb: &[u8]) -> Option<Request>
+    requires had { is_some (command_of profile kind opcode) ≡ true }
+    requires whole { IfSome (command_of profile kind opcode) (λ (r : Row). r.length ≤ length cdb.now) }
+    ensures value { result ≡ fields_in (command_of profile kind opcode) cdb.now }
     ensures fits { IfSome result Fits }
 {
     match opcode {
@@ -120,7 +121,10 @@ fn fields_of(profile: Profile, opcode: u8, cdb: &[u8]) -> Option<Request>
         MODE_SENSE_6 => Some(mode_sense_at(cdb)),
         LOAD_UNLOAD => Some(load_unload_at(cdb)),
         PREVENT_ALLOW_MEDIUM_REMOVAL => Some(prevent_allow_medium_removal_at(cdb)),
-        LOCATE_10 => Some(locate_at(cdb)),
+        LOCATE_10 => match kind {
+            Kind::Drive => Some(locate_at(cdb)),
+            Kind::Changer => host_fields_of(kind, opcode, cdb),
+        },
         READ_POSITION => read_position_at(profile, cdb),
         PERSISTENT_RESERVE_IN => reserve_in_at(cdb),
         PERSISTENT_RESERVE_OUT => reserve_out_at(cdb),
@@ -129,7 +133,7 @@ fn fields_of(profile: Profile, opcode: u8, cdb: &[u8]) -> Option<Request>
         READ_ELEMENT_STATUS => Some(read_element_status_at(cdb)),
         _ => match profile {
             Profile::Spec => None,
-            Profile::Hosts => host_fields_of(opcode, cdb),
+            Profile::Hosts => host_fields_of(kind, opcode, cdb),
         },
     }
 }

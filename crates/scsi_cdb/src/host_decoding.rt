@@ -1,9 +1,9 @@
-//! What the CDBs of the commands that only the hosts' profile has say (SPC-4).
+//! What the CDBs of the commands that only the hosts' profile has say (SPC-4, SMC-3).
 
-ghost use Rattle.std.specs.Prelude.{◌≡◌, ◌==◌, ◌≤◌, length, IfSome, is_some, find};
+ghost use Rattle.std.specs.Prelude.{◌≡◌, ◌≤◌, true, length, IfSome, is_some};
 ghost use Rattle.scsi_cdb.specs.Bits.{bits};
-ghost use Rattle.scsi_cdb.specs.HostCommands.{HostFits, send_diagnostic, log_select, log_sense, mode_select_10, mode_sense_10, supported_operation_codes, supported_task_management, maintenance_in};
-ghost use Rattle.scsi_cdb.specs.Commands.{Row, where_had, fields_in, host_rows};
+ghost use Rattle.scsi_cdb.specs.HostCommands.{HostFits, send_diagnostic, log_select, log_sense, mode_select_10, mode_sense_10, supported_operation_codes, supported_task_management, maintenance_in, position_to_element, initialize_with_range};
+ghost use Rattle.scsi_cdb.specs.Commands.{Row, had, fields_in, host_rows};
 ghost use Rattle.scsi_cdb.specs.Encoding.{Fits};
 ghost use Rattle.scsi_cdb.specs.declared.profile.Profile.TheVariants.{Hosts};
 
@@ -15,19 +15,21 @@ use crate::request::Request;
 
 /// Whether units of the kind have a command that only the hosts' profile has.
 pub fn has_host_command(kind: Kind, opcode: u8) -> bool
-    ensures { result ≡ is_some (where_had kind (find (λ (r : Row). r.opcode == opcode) (host_rows Hosts))) }
+    ensures { result ≡ is_some (had kind opcode (host_rows Hosts)) }
 {
     match opcode {
         SEND_DIAGNOSTIC | LOG_SELECT | LOG_SENSE | MODE_SENSE_10 | MAINTENANCE_IN => true,
         MODE_SELECT_10 => kind == Kind::Drive,
+        POSITION_TO_ELEMENT | INITIALIZE_ELEMENT_STATUS_WITH_RANGE => kind == Kind::Changer,
         _ => false,
     }
 }
 
 /// What a CDB of such a command says, where its service action is one of the command's own.
-pub fn host_fields_of(opcode: u8, cdb: &[u8]) -> Option<Request>
-    requires { IfSome (find (λ (r : Row). r.opcode == opcode) (host_rows Hosts)) (λ (r : Row). r.length ≤ length cdb.now) }
-    ensures value { result ≡ fields_in (find (λ (r : Row). r.opcode == opcode) (host_rows Hosts)) cdb.now }
+pub fn host_fields_of(kind: Kind, opcode: u8, cdb: &[u8]) -> Option<Request>
+    requires had { is_some (had kind opcode (host_rows Hosts)) ≡ true }
+    requires whole { IfSome (had kind opcode (host_rows Hosts)) (λ (r : Row). r.length ≤ length cdb.now) }
+    ensures value { result ≡ fields_in (had kind opcode (host_rows Hosts)) cdb.now }
     ensures fits { IfSome result Fits }
 {
     match opcode {
@@ -37,6 +39,10 @@ pub fn host_fields_of(opcode: u8, cdb: &[u8]) -> Option<Request>
         MODE_SELECT_10 => Some(Request::Host(mode_select_10_at(cdb))),
         MODE_SENSE_10 => Some(Request::Host(mode_sense_10_at(cdb))),
         MAINTENANCE_IN => Some(Request::Host(maintenance_in_at(cdb)?)),
+        POSITION_TO_ELEMENT => Some(Request::Host(position_to_element_at(cdb))),
+        INITIALIZE_ELEMENT_STATUS_WITH_RANGE => {
+            Some(Request::Host(initialize_with_range_at(cdb)))
+        }
         _ => None,
     }
 }
@@ -147,5 +153,30 @@ fn supported_task_management_at(cdb: &[u8]) -> HostRequest
     HostRequest::ReportSupportedTaskManagementFunctions {
         return_extended_data: bit_at(cdb, REPORT_FLAGS, REPD_BIT),
         allocation_length: u32_at(cdb, REPORT_ALLOCATION_LENGTH),
+    }
+}
+
+fn position_to_element_at(cdb: &[u8]) -> HostRequest
+    requires { 10 ≤ length cdb.now }
+    ensures value { result ≡ position_to_element cdb.now }
+    ensures fits { HostFits result }
+{
+    HostRequest::PositionToElement {
+        medium_transport_element_address: u16_at(cdb, MEDIUM_TRANSPORT_ELEMENT_ADDRESS),
+        destination_element_address: u16_at(cdb, POSITION_DESTINATION_ELEMENT_ADDRESS),
+        invert: bit_at(cdb, POSITION_FLAGS, INVERT_BIT),
+    }
+}
+
+fn initialize_with_range_at(cdb: &[u8]) -> HostRequest
+    requires { 10 ≤ length cdb.now }
+    ensures value { result ≡ initialize_with_range cdb.now }
+    ensures fits { HostFits result }
+{
+    HostRequest::InitializeElementStatusWithRange {
+        fast: bit_at(cdb, FLAGS, FAST_BIT),
+        range: bit_at(cdb, FLAGS, RANGE_BIT),
+        starting_element_address: u16_at(cdb, STARTING_ELEMENT_ADDRESS),
+        number_of_elements: u16_at(cdb, RANGE_NUMBER_OF_ELEMENTS),
     }
 }

@@ -125,5 +125,35 @@ pub fn host_encode(request: &HostRequest) -> [u8; CDB_LENGTH]
                 n0,
             ])
         }
+        HostRequest::PositionToElement {
+            medium_transport_element_address,
+            destination_element_address,
+            invert,
+        } => {
+            let [t1, t0] = medium_transport_element_address.to_be_bytes();
+            let [d1, d0] = destination_element_address.to_be_bytes();
+            let flags = flag(INVERT_BIT, invert);
+            zero_padded(&[POSITION_TO_ELEMENT, 0, t1, t0, d1, d0, 0, 0, flags])
+        }
+        HostRequest::InitializeElementStatusWithRange {
+            fast,
+            range,
+            starting_element_address,
+            number_of_elements,
+        } => {
+            let flags = flag(FAST_BIT, fast) + flag(RANGE_BIT, range);
+            let [s1, s0] = starting_element_address.to_be_bytes();
+            let [e1, e0] = number_of_elements.to_be_bytes();
+            zero_padded(&[
+                INITIALIZE_ELEMENT_STATUS_WITH_RANGE,
+                flags,
+                s1,
+                s0,
+                0,
+                0,
+                e1,
+                e0,
+            ])
+        }
     }
 }

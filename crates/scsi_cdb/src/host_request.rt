@@ -68,6 +68,17 @@ pub enum HostRequest {
         return_extended_data: bool,
         allocation_length: u32,
     },
+    PositionToElement {
+        medium_transport_element_address: u16,
+        destination_element_address: u16,
+        invert: bool,
+    },
+    InitializeElementStatusWithRange {
+        fast: bool,
+        range: bool,
+        starting_element_address: u16,
+        number_of_elements: u16,
+    },
 }
 
 impl HostRequest {
@@ -89,6 +100,8 @@ impl HostRequest {
             HostRequest::ReportSupportedTaskManagementFunctions { .. } => {
                 Class::ReportSupportedTaskManagementFunctions
             }
+            HostRequest::PositionToElement { .. } => Class::PositionToElement,
+            HostRequest::InitializeElementStatusWithRange { .. } => Class::InitializeElementStatus,
         }
     }
 }

@@ -9,7 +9,7 @@ ghost use Rattle.scsi_cdb.specs.declared.service_action.OutServiceAction.TheVari
 ghost use Rattle.scsi_cdb.specs.declared.fault.CdbFault.TheVariants.{Opcode, ShortCdb, ServiceAction, Naca};
 ghost use Rattle.scsi_cdb.specs.declared.kind.Kind.TheVariants.{Drive, Changer};
 ghost use Rattle.scsi_cdb.specs.declared.profile.Profile.TheVariants.{Spec, Hosts};
-ghost use Rattle.scsi_cdb.specs.declared.host_request.HostRequest.TheVariants.{SendDiagnostic, LogSelect, LogSense, ModeSelect10, ModeSense10, ReportSupportedOperationCodes, ReportSupportedTaskManagementFunctions};
+ghost use Rattle.scsi_cdb.specs.declared.host_request.HostRequest.TheVariants.{SendDiagnostic, LogSelect, LogSense, ModeSelect10, ModeSense10, ReportSupportedOperationCodes, ReportSupportedTaskManagementFunctions, PositionToElement, InitializeElementStatusWithRange};
 ghost use Rattle.scsi_cdb.specs.declared.request.Request.TheVariants.{TestUnitReady, Rewind, RequestSense, ReadBlockLimits, InitializeElementStatus, Read, Write, WriteFilemarks, Space, Inquiry, ModeSelect, Erase, ModeSense, LoadUnload, PreventAllowMediumRemoval, Locate, ReadPosition, PersistentReserveIn, PersistentReserveOut, ReportLuns, MoveMedium, ReadElementStatus, Host};
 
 /// Law: a unit that has the command decodes what was encoded, where the fields fit their bits.
@@ -151,8 +151,28 @@ pub fn worked_rows_of_hosts()
     ensures mode_select_of_a_changer { decoded (commands Hosts Changer) (0x55 ∷ 0 ∷ 0 ∷ 0 ∷ 0 ∷ 0 ∷ 0 ∷ 0 ∷ 0 ∷ 0 ∷ []) ≡ Err Opcode }
     ensures none_of_them_by_default { decoded (commands Spec Drive) (0x4D ∷ 0 ∷ 0x2E ∷ 0 ∷ 0 ∷ 0 ∷ 0 ∷ 1 ∷ 0x44 ∷ 0 ∷ []) ≡ Err Opcode }
     ensures position_by_default { decoded (commands Spec Drive) (0x34 ∷ 1 ∷ 0 ∷ 0 ∷ 0 ∷ 0 ∷ 0 ∷ 0 ∷ 0 ∷ 0 ∷ []) ≡ Err ServiceAction }
+    ensures position_to_element { decoded (commands Hosts Changer) (0x2B ∷ 0xFF ∷ 1 ∷ 2 ∷ 4 ∷ 3 ∷ 9 ∷ 9 ∷ 0xFE ∷ 0 ∷ [])
+        ≡ Ok (Host (PositionToElement 0x0102 0x0403 false)) }
+    ensures position_inverted { decoded (commands Hosts Changer) (0x2B ∷ 0 ∷ 0 ∷ 0 ∷ 1 ∷ 0 ∷ 0 ∷ 0 ∷ 1 ∷ 0 ∷ [])
+        ≡ Ok (Host (PositionToElement 0 0x0100 true)) }
+    ensures locate_of_a_drive { decoded (commands Hosts Drive) (0x2B ∷ 0 ∷ 0 ∷ 0 ∷ 1 ∷ 0 ∷ 0 ∷ 0 ∷ 1 ∷ 0 ∷ [])
+        ≡ Ok (Locate false false 0x00010000 1) }
+    ensures position_by_naca { decoded (commands Hosts Changer) (0x2B ∷ 0 ∷ 0 ∷ 0 ∷ 4 ∷ 0 ∷ 0 ∷ 0 ∷ 0 ∷ 4 ∷ []) ≡ Err Naca }
+    ensures short_position { decoded (commands Hosts Changer) (0x2B ∷ 0 ∷ 0 ∷ 0 ∷ 4 ∷ 0 ∷ 0 ∷ 0 ∷ 0 ∷ []) ≡ Err ShortCdb }
+    ensures no_position_to_element_by_default { decoded (commands Spec Changer) (0x2B ∷ 0 ∷ 0 ∷ 0 ∷ 4 ∷ 0 ∷ 0 ∷ 0 ∷ 0 ∷ 0 ∷ []) ≡ Err Opcode }
+    ensures initialize_a_range { decoded (commands Hosts Changer) (0x37 ∷ 0xFD ∷ 4 ∷ 1 ∷ 9 ∷ 9 ∷ 0 ∷ 2 ∷ 9 ∷ 0 ∷ [])
+        ≡ Ok (Host (InitializeElementStatusWithRange false true 0x0401 2)) }
+    ensures initialize_fast { decoded (commands Hosts Changer) (0x37 ∷ 2 ∷ 0 ∷ 0 ∷ 0 ∷ 0 ∷ 0xFF ∷ 0xFF ∷ 0 ∷ 0 ∷ [])
+        ≡ Ok (Host (InitializeElementStatusWithRange true false 0 0xFFFF)) }
+    ensures short_initialize { decoded (commands Hosts Changer) (0x37 ∷ 0 ∷ 0 ∷ 0 ∷ 0 ∷ 0 ∷ 0 ∷ 0 ∷ 0 ∷ []) ≡ Err ShortCdb }
+    ensures initialize_of_a_drive { decoded (commands Hosts Drive) (0x37 ∷ 0 ∷ 0 ∷ 0 ∷ 0 ∷ 0 ∷ 0 ∷ 0 ∷ 0 ∷ 0 ∷ []) ≡ Err Opcode }
+    ensures initialize_by_default { decoded (commands Spec Changer) (0x37 ∷ 0 ∷ 0 ∷ 0 ∷ 0 ∷ 0 ∷ 0 ∷ 0 ∷ 0 ∷ 0 ∷ []) ≡ Err Opcode }
     ensures first_partition { decoded (commands Hosts Drive) (0x2B ∷ 2 ∷ 0 ∷ 0 ∷ 0 ∷ 0 ∷ 3 ∷ 9 ∷ 1 ∷ 0 ∷ []) ≡ Ok (Locate false true 3 1) }
     ensures located { encoded (Locate false true 3 1) ≡ padded (0x2B ∷ 2 ∷ 0 ∷ 0 ∷ 0 ∷ 0 ∷ 3 ∷ 0 ∷ 1 ∷ []) }
+    ensures positioned { encoded (Host (PositionToElement 0 0x0403 false)) ≡ padded (0x2B ∷ 0 ∷ 0 ∷ 0 ∷ 4 ∷ 3 ∷ []) }
+    ensures positioned_inverted { encoded (Host (PositionToElement 0 0x0100 true)) ≡ padded (0x2B ∷ 0 ∷ 0 ∷ 0 ∷ 1 ∷ 0 ∷ 0 ∷ 0 ∷ 1 ∷ []) }
+    ensures initialized { encoded (Host (InitializeElementStatusWithRange true true 0x0400 32))
+        ≡ padded (0x37 ∷ 3 ∷ 4 ∷ 0 ∷ 0 ∷ 0 ∷ 0 ∷ 0x20 ∷ []) }
     ensures written { encoded (Host (LogSense false false 1 0x2E 0 0 324)) ≡ padded (0x4D ∷ 0 ∷ 0x6E ∷ 0 ∷ 0 ∷ 0 ∷ 0 ∷ 1 ∷ 0x44 ∷ []) }
 {}
 

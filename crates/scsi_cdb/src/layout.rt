@@ -51,6 +51,11 @@ pub const READ_ELEMENT_STATUS: u8 = 0xB8;
 // Operation codes that only the hosts' profile has.
 pub const SEND_DIAGNOSTIC: u8 = 0x1D;
 
+/// Of a changer; of a drive the code is that of LOCATE(10).
+pub const POSITION_TO_ELEMENT: u8 = 0x2B;
+
+pub const INITIALIZE_ELEMENT_STATUS_WITH_RANGE: u8 = 0x37;
+
 pub const LOG_SELECT: u8 = 0x4C;
 
 pub const LOG_SENSE: u8 = 0x4D;
@@ -244,6 +249,18 @@ pub const DESTINATION_ELEMENT_ADDRESS: usize = 6;
 pub const MOVE_MEDIUM_FLAGS: usize = 10;
 
 pub const INVERT_BIT: u8 = 0;
+
+// POSITION TO ELEMENT: the medium transport element as in MOVE MEDIUM, a place, and byte 8.
+pub const POSITION_DESTINATION_ELEMENT_ADDRESS: usize = 4;
+
+pub const POSITION_FLAGS: usize = 8;
+
+// INITIALIZE ELEMENT STATUS WITH RANGE, byte 1; then the first element as in READ ELEMENT STATUS, and a place.
+pub const FAST_BIT: u8 = 1;
+
+pub const RANGE_BIT: u8 = 0;
+
+pub const RANGE_NUMBER_OF_ELEMENTS: usize = 6;
 
 // READ ELEMENT STATUS, byte 1, then places, and byte 6.
 pub const VOLTAG_BIT: u8 = 4;

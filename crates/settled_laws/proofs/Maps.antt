@@ -1,5 +1,5 @@
 -- Elements as if no object of any tape counted as unchanged: the same places, tags and refusals, and after each call again such elements.
-use Rattle.std.proofs.Common.{◌≡◌, ℕ, ◌==◌, Bool, List, [], ◌∷◌, length, get_or, map, Option, Some, None, Result, Ok, Err, refl, sym, ap}
+use Rattle.std.proofs.Common.{◌≡◌, ℕ, ◌==◌, Bool, List, [], ◌∷◌, length, get_or, map, Option, Some, None, is_some, Result, Ok, Err, refl, sym, ap}
 use Rattle.std.proofs.Common.{◌∙◌, if◌then◌else◌, ◌-◌}
 use Rattle.std.proofs.lemmas.List.{length-map, map-set}
 use Rattle.std.proofs.Math.ListN.{get_or-map}
@@ -18,7 +18,7 @@ use Rattle.element_sources.specs.HostStatus.{host_status}
 use Rattle.element_sources.specs.Sources.{Sources}
 use Rattle.element_sources.specs.declared.status_request.StatusRequest.{StatusRequest}
 use Rattle.device_server.specs.Changer.{changer_mode_data}
-use Rattle.device_server.specs.HostChanger.{addresses_of}
+use Rattle.device_server.specs.HostChanger.{addresses_of, can_hold}
 
 -- PLACES
 
@@ -129,6 +129,11 @@ same_holding e (Storage i) p =
     ap (λ (ps : List (Option Volume)). elements_of e.data_transfer (map unsettled_place e.import_export) ps)
     (map-set unsettled_place e.storage i p)
 same_holding e Nowhere p = refl
+
+pub same_can_hold : (e : Elements) (address : ℕ) → can_hold (unsettled_elements e) address ≡ can_hold e address
+same_can_hold e address =
+    ap (λ (held : Option (Option VolumeTag)). is_some held)
+    (ap (λ (at : Element). tag_held (unsettled_elements e) at) (same_element e address) ∙ same_tag_held e (element_at e address))
 
 pub same_refusal : (e : Elements) (transport source destination : ℕ)
     → move_refusal (unsettled_elements e) transport source destination ≡ move_refusal e transport source destination

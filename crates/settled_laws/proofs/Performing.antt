@@ -1,13 +1,13 @@
 -- Each command is performed alike: first as if nothing was settled, and so at any two devices that are the same but settled.
 use Rattle.std.proofs.Common.{◌≡◌, ℕ, Bool, true, false, List, [], ◌∷◌, length, Option, Some, None, Result, Ok, Err, refl, sym, ap, subst}
-use Rattle.std.proofs.Common.{◌∙◌, min, take, not, ◌==◌}
+use Rattle.std.proofs.Common.{◌∙◌, min, take, not, ◌==◌, ◌&&◌, if◌then◌else◌}
 use Rattle.scsi_cdb.specs.declared.host_request.HostRequest.{HostRequest}
 use Rattle.scsi_cdb.specs.declared.host_request.HostRequest.TheVariants as host
 use Rattle.scsi_cdb.specs.declared.kind.Kind.TheVariants.{Drive as drive_kind}
 use Rattle.scsi_cdb.specs.declared.request.Request.{Request}
 use Rattle.scsi_cdb.specs.declared.request.Request.TheVariants as request
 use Rattle.scsi_sense.specs.declared.condition.Condition.{Condition}
-use Rattle.scsi_sense.specs.declared.condition.Condition.TheVariants.{InternalTargetFailure}
+use Rattle.scsi_sense.specs.declared.condition.Condition.TheVariants.{InternalTargetFailure, InvalidElementAddress}
 use Rattle.tape_medium.specs.Limits.{block_limit}
 use Rattle.tape_medium.specs.TapeView.{TapeView}
 use Rattle.tape_medium.specs.declared.volume.Volume.{Volume}
@@ -42,7 +42,7 @@ use Rattle.device_server.specs.HostDrive.{mode_state, host_selects, host_loads, 
 use Rattle.device_server.specs.View.{DeviceView, Drive, Changer, field_fault, drive_stepped, changer_stepped, stepped, performed}
 use Rattle.settled_laws.specs.Alike.{StepAlike, PerformAlike, AttendedAnswersAlike, ends, attends, performs, outcomes, device_after}
 use Rattle.settled_laws.proofs.Tapes.{Alike, on_tape_alike}
-use Rattle.settled_laws.proofs.Maps.{place_twice, elements_twice, same_refusal, same_mode_data, same_status, same_addresses, same_host_status, moves_same, of_result}
+use Rattle.settled_laws.proofs.Maps.{place_twice, elements_twice, same_refusal, same_mode_data, same_status, same_addresses, same_host_status, same_can_hold, moves_same, of_result}
 pub use Rattle.settled_laws.proofs.Showing.{refuse_alike}
 
 -- A DRIVE
@@ -191,6 +191,8 @@ command_alike bay loaded block_length hosts h (host.ModeSense10 dbd pc page subp
 command_alike bay loaded block_length hosts h (host.SendDiagnostic code test l) bytes = stays_alike bay loaded block_length hosts _
 command_alike bay loaded block_length hosts h (host.ReportSupportedOperationCodes rctd options code action l) bytes = stays_alike bay loaded block_length hosts _
 command_alike bay loaded block_length hosts h (host.ReportSupportedTaskManagementFunctions repd l) bytes = stays_alike bay loaded block_length hosts _
+command_alike bay loaded block_length hosts h (host.PositionToElement transport destination invert) bytes = stays_alike bay loaded block_length hosts _
+command_alike bay loaded block_length hosts h (host.InitializeElementStatusWithRange fast range start count) bytes = stays_alike bay loaded block_length hosts _
 
 host_alike : (bay : Option Volume) (loaded : Bool) (block_length : ℕ) (hosts : Option HostDrive) (h : HostDrive) (r : Request) (bytes : List ℕ)
     → DriveAlike (host_drive_step (drive_of bay loaded block_length hosts) h r bytes)
@@ -283,6 +285,8 @@ answer_same : (e : Elements) (command : HostRequest) (bytes : List ℕ)
     → changer_command_answer e command bytes ≡ changer_command_answer (unsettled_elements e) command bytes
 answer_same e (host.ModeSense10 dbd pc page subpage l) bytes =
     ap (λ (at : ElementAddresses). answers l (changer_answer (mode_sense Ten dbd pc page subpage) at)) (sym (same_addresses e))
+answer_same e (host.PositionToElement transport destination invert) bytes =
+    ap (λ (held : Bool). if transport == 0 && held then done [] else refused InvalidElementAddress) (sym (same_can_hold e destination))
 answer_same e command bytes = refl
 
 host_changer_alike : (hosts : Option HostChanger) (h : HostChanger) (e : Elements) (r : Request) (bytes : List ℕ)

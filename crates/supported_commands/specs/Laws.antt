@@ -2,8 +2,9 @@
 use Rattle.std.specs.Prelude.{◌≡◌, ◌<◌, ℕ, ◌-◌, ◌/◌, ◌==◌, nat_lt, Bool, true, not, if◌then◌else◌, ◌&&◌, ◌||◌, List, [], ◌∷◌, length, slice_index, Option, Some, None, is_some}
 use Rattle.std.specs.List.{list_any}
 use Rattle.scsi_cdb.specs.declared.kind.Kind.{Kind}
+use Rattle.scsi_cdb.specs.declared.kind.Kind.TheVariants.{Drive, Changer}
 use Rattle.scsi_cdb.specs.declared.profile.Profile.TheVariants.{Hosts}
-use Rattle.scsi_cdb.specs.Commands.{Row, row_of, command_of, length_of_group}
+use Rattle.scsi_cdb.specs.Commands.{Row, command_of, length_of_group}
 use Rattle.supported_commands.specs.declared.command.Command.{Command}
 use Rattle.supported_commands.specs.declared.options.ReportingOptions.{ReportingOptions}
 use Rattle.supported_commands.specs.declared.request.ReportOperationCodes.{ReportOperationCodes}
@@ -21,20 +22,22 @@ is_listed kind code = list_any (λ (c : Command). has c.units kind && c.operatio
 
 -- law: the operation codes that are listed are those of the commands of the hosts' profile
 abbrev pub ListsEachCode : Type 0
-ListsEachCode = (kind : Kind) (code : ℕ) → code < 0x100 → is_listed kind code ≡ is_some (row_of Hosts kind code)
+ListsEachCode = (kind : Kind) (code : ℕ) → code < 0x100 → is_listed kind code ≡ is_some (command_of Hosts kind code)
 
 -- the service actions of an operation code that units of the kind have
 abbrev pub has_action : Kind → (code service_action : ℕ) → Bool
 has_action kind code service_action = is_some (command_with_action kind code service_action)
 
--- CDB USAGE DATA has the length of the group code, and that of the command
+-- CDB USAGE DATA has the length of the group code, and that of the command of each kind of unit
 abbrev pub is_row_length : Option Row → ℕ → Bool
 is_row_length None n = true
 is_row_length (Some r) n = r.length == n
 
 abbrev pub has_cdb_length : Command → Bool
 has_cdb_length c =
-    let n = length (usage_bytes c.usage) in n == length_of_group (c.operation_code / 0x20) && is_row_length (command_of Hosts c.operation_code) n
+    let n = length (usage_bytes c.usage) in
+    n == length_of_group (c.operation_code / 0x20) && is_row_length (command_of Hosts Drive c.operation_code) n
+    && is_row_length (command_of Hosts Changer c.operation_code) n
 
 -- it begins with the operation code, has the service action in byte 1, and of the CONTROL byte, the last, NACA alone counts
 abbrev pub is_action_at : Option ℕ → ℕ → Bool

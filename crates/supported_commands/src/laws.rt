@@ -28,7 +28,7 @@ pub fn listed_service_actions()
 {}
 
 /// Law: CDB USAGE DATA is as long as the command's CDB, begins with the operation code and has the service action in byte 1; four
-/// operation codes have service actions; the commands ascend; a drive has 37 of them, and a changer 27.
+/// operation codes have service actions; the commands ascend; a drive has 37 of them, and a changer 29.
 #[tactic(auto, unfolding(crate::specs::Commands::table, crate::specs::Commands::not_yet_offered, scsi_cdb::specs::Commands::command_of))]
 pub fn commands_are_well_formed()
     ensures cdb_length { IsTrue (list_all has_cdb_length table) }
@@ -37,7 +37,7 @@ pub fn commands_are_well_formed()
     ensures drives_ascend { IsTrue (is_ascending (commands_of Drive)) }
     ensures changers_ascend { IsTrue (is_ascending (commands_of Changer)) }
     ensures drives_have { length (commands_of Drive) ≡ 37 }
-    ensures changers_have { length (commands_of Changer) ≡ 27 }
+    ensures changers_have { length (commands_of Changer) ≡ 29 }
     ensures cdb_length_of_others { IsTrue (list_all has_cdb_length not_yet_offered) }
     ensures usage_of_others { IsTrue (list_all is_well_formed not_yet_offered) }
 {}
@@ -58,15 +58,15 @@ pub fn worked_rows_of_all_commands()
         ≡ 0xA3 ∷ 0x00 ∷ 0x00 ∷ 0x0D ∷ 0x00 ∷ 0x03 ∷ 0x00 ∷ 0x0C
         ∷ 0x00 ∷ 0x0A ∷ 0x00 ∷ 0x00 ∷ 0x00 ∷ 0x00 ∷ 0x00 ∷ 0x01 ∷ 0x00 ∷ 0x00 ∷ 0x00 ∷ 0x3C ∷ [] }
     ensures changer { take 12 (all_commands Changer false)
-        ≡ 0x00 ∷ 0x00 ∷ 0x00 ∷ 0xD8 ∷ 0x00 ∷ 0x00 ∷ 0x00 ∷ 0x00 ∷ 0x00 ∷ 0x00 ∷ 0x00 ∷ 0x06 ∷ [] }
-    ensures changer_length { length (all_commands Changer false) ≡ 4 + 216 }
-    ensures changer_last { drop 212 (all_commands Changer false)
+        ≡ 0x00 ∷ 0x00 ∷ 0x00 ∷ 0xE8 ∷ 0x00 ∷ 0x00 ∷ 0x00 ∷ 0x00 ∷ 0x00 ∷ 0x00 ∷ 0x00 ∷ 0x06 ∷ [] }
+    ensures changer_length { length (all_commands Changer false) ≡ 4 + 232 }
+    ensures changer_last { drop 228 (all_commands Changer false)
         ≡ 0xB8 ∷ 0x00 ∷ 0x00 ∷ 0x00 ∷ 0x00 ∷ 0x00 ∷ 0x00 ∷ 0x0C ∷ [] }
     ensures changer_timeouts { take 24 (all_commands Changer true)
-        ≡ 0x00 ∷ 0x00 ∷ 0x02 ∷ 0x1C ∷ 0x00 ∷ 0x00 ∷ 0x00 ∷ 0x00 ∷ 0x00 ∷ 0x02 ∷ 0x00 ∷ 0x06
+        ≡ 0x00 ∷ 0x00 ∷ 0x02 ∷ 0x44 ∷ 0x00 ∷ 0x00 ∷ 0x00 ∷ 0x00 ∷ 0x00 ∷ 0x02 ∷ 0x00 ∷ 0x06
         ∷ 0x00 ∷ 0x0A ∷ 0x00 ∷ 0x00 ∷ 0x00 ∷ 0x00 ∷ 0x00 ∷ 0x01 ∷ 0x00 ∷ 0x00 ∷ 0x00 ∷ 0x3C ∷ [] }
-    ensures changer_timeouts_length { length (all_commands Changer true) ≡ 4 + 540 }
-    ensures changer_timeouts_last { drop 524 (all_commands Changer true)
+    ensures changer_timeouts_length { length (all_commands Changer true) ≡ 4 + 580 }
+    ensures changer_timeouts_last { drop 564 (all_commands Changer true)
         ≡ 0xB8 ∷ 0x00 ∷ 0x00 ∷ 0x00 ∷ 0x00 ∷ 0x02 ∷ 0x00 ∷ 0x0C
         ∷ 0x00 ∷ 0x0A ∷ 0x00 ∷ 0x00 ∷ 0x00 ∷ 0x00 ∷ 0x00 ∷ 0x01 ∷ 0x00 ∷ 0x00 ∷ 0x01 ∷ 0x2C ∷ [] }
     ensures answered { (operation_codes Changer (asked false All 0x5E 9) ≡ Ok (all_commands Changer false)) }
@@ -101,6 +101,17 @@ pub fn worked_rows_without_service_actions()
         ≡ Ok (0x00 ∷ 0x01 ∷ 0x00 ∷ 0x00 ∷ []) }
     ensures read_element_status { operation_codes Changer (asked false OneWithoutServiceActions 0xB8 0)
         ≡ Ok (0x00 ∷ 0x03 ∷ 0x00 ∷ 0x0C ∷ 0xB8 ∷ 0x1F ∷ 0xFF ∷ 0xFF ∷ 0xFF ∷ 0xFF ∷ 0x03 ∷ 0xFF ∷ 0xFF ∷ 0xFF ∷ 0x00 ∷ 0x04 ∷ []) }
+    ensures position_to_element { operation_codes Changer (asked true OneWithoutServiceActions 0x2B 0)
+        ≡ Ok (0x00 ∷ 0x83 ∷ 0x00 ∷ 0x0A ∷ 0x2B ∷ 0x00 ∷ 0xFF ∷ 0xFF ∷ 0xFF ∷ 0xFF ∷ 0x00 ∷ 0x00 ∷ 0x01 ∷ 0x04
+        ∷ 0x00 ∷ 0x0A ∷ 0x00 ∷ 0x00 ∷ 0x00 ∷ 0x00 ∷ 0x00 ∷ 0x01 ∷ 0x00 ∷ 0x00 ∷ 0x01 ∷ 0x2C ∷ []) }
+    ensures locate_with_timeouts { operation_codes Drive (asked true OneWithoutServiceActions 0x2B 0)
+        ≡ Ok (0x00 ∷ 0x83 ∷ 0x00 ∷ 0x0A ∷ 0x2B ∷ 0x02 ∷ 0x00 ∷ 0xFF ∷ 0xFF ∷ 0xFF ∷ 0xFF ∷ 0x00 ∷ 0xFF ∷ 0x04
+        ∷ 0x00 ∷ 0x0A ∷ 0x00 ∷ 0x00 ∷ 0x00 ∷ 0x00 ∷ 0x00 ∷ 0x01 ∷ 0x00 ∷ 0x00 ∷ 0x38 ∷ 0x40 ∷ []) }
+    ensures initialize_with_range { operation_codes Changer (asked true Either 0x37 0)
+        ≡ Ok (0x00 ∷ 0x83 ∷ 0x00 ∷ 0x0A ∷ 0x37 ∷ 0x00 ∷ 0x00 ∷ 0x00 ∷ 0x00 ∷ 0x00 ∷ 0x00 ∷ 0x00 ∷ 0x00 ∷ 0x04
+        ∷ 0x00 ∷ 0x0A ∷ 0x00 ∷ 0x00 ∷ 0x00 ∷ 0x00 ∷ 0x00 ∷ 0x01 ∷ 0x00 ∷ 0x00 ∷ 0x0E ∷ 0x10 ∷ []) }
+    ensures initialize_with_range_of_a_drive { operation_codes Drive (asked false OneWithoutServiceActions 0x37 0)
+        ≡ Ok (0x00 ∷ 0x01 ∷ 0x00 ∷ 0x00 ∷ []) }
     ensures send_diagnostic { operation_codes Changer (asked false OneWithoutServiceActions 0x1D 0)
         ≡ Ok (0x00 ∷ 0x03 ∷ 0x00 ∷ 0x06 ∷ 0x1D ∷ 0xE4 ∷ 0x00 ∷ 0xFF ∷ 0xFF ∷ 0x04 ∷ []) }
 {}

@@ -190,6 +190,10 @@ impl TapeDrive {
                 let payload = Payload::copied(alloc, data)?.cut(*allocation_length as usize);
                 Ok(Outcome::good(payload))
             }
+            HostRequest::PositionToElement { .. }
+            | HostRequest::InitializeElementStatusWithRange { .. } => {
+                Ok(Outcome::check(alloc, Condition::InvalidCommandOperationCode))
+            }
         }
     }
 
