@@ -6,7 +6,10 @@ use Rattle.program_options.specs.ServeUntil.{workers_of}
 use Rattle.program_options.specs.Strangers.{most_strangers}
 use Rattle.program_options.specs.declared.library_options.LibraryOptions.{LibraryOptions}
 use Rattle.command_line.specs.declared.task.Task.{Task}
-use Rattle.command_line.specs.declared.task.Task.TheVariants.{Replay, Serve, Client, Cells, CheckMedia}
+use Rattle.command_line.specs.declared.task.Task.TheVariants.{Replay, Serve, CheckServe, Client, Cells, CheckMedia}
+use Rattle.command_line.specs.declared.task.Asked.{Asked}
+use Rattle.command_line.specs.declared.task.Asked.TheVariants as asked
+use Rattle.given_options.specs.Ranges.{AreGiven}
 use Rattle.command_line.specs.declared.task.ServeOptions.{ServeOptions}
 use Rattle.command_line.specs.declared.task.IscsiOptions.{IscsiOptions}
 use Rattle.command_line.specs.declared.task.MediaOptions.{MediaOptions}
@@ -53,6 +56,12 @@ pub record IsClientOptions (host : ClientOptions) : Type 0 where
 abbrev pub IsDoable : Task → Type 0
 IsDoable (Replay library profile explanations audit) = MakesLibrary library
 IsDoable (Serve library profile serving audit) = MakesServed library serving.media × IsServeOptions serving
+IsDoable (CheckServe library profile serving audit) = MakesServed library serving.media × IsServeOptions serving
 IsDoable (Client host explanations) = IsClientOptions host
 IsDoable (Cells profile class) = Unit {0}
 IsDoable (CheckMedia folder) = Unit {0}
+
+-- a task that can be done, or options that are each in their range
+abbrev pub IsAsked : Asked → Type 0
+IsAsked (asked.Task task) = IsDoable task
+IsAsked (asked.Serving line) = AreGiven line.given

@@ -2,7 +2,7 @@
 
 use crate::options::{
     AUDIT, CELLS, CHECK, CLIENT, EXPLAIN, ISCSI, LIBRARY, LOG, MEDIA, OptionRow, PLACE, PROFILE,
-    PROFILE_ALONE, RECORDS, TIMES, with_options,
+    PROFILE_ALONE, RECORDS, SOURCE, TIMES, with_options,
 };
 use clap::Command;
 use std::alloc::{AllocError, Global};
@@ -28,7 +28,10 @@ const SERVE_EXAMPLE: &str =
   vtl serve --socket /run/vtl/socket --sessions 2
   vtl serve --socket /run/vtl/socket --workers 16 --drain --log
 Example: a library for one host over iSCSI:
-  vtl serve --iscsi 127.0.0.1:3260 --host iqn.2026-11.example:a=500000000000000a --drain --log";
+  vtl serve --iscsi 127.0.0.1:3260 --host iqn.2026-11.example:a=500000000000000a --drain --log
+Examples: what a file of options would serve, and the same served:
+  vtl serve --config examples/vtl.toml --check
+  vtl serve --config examples/vtl.toml";
 
 const CLIENT_EXAMPLE: &str =
     "Example: a host that asks logical unit 0 whether it is ready, with the reply in words:
@@ -58,7 +61,7 @@ const COMMANDS: [CommandRow; 4] = [
         about: "Serves the library at a Unix socket, over iSCSI or both, and prints a line for each record",
         examples: SERVE_EXAMPLE,
         tables: &[
-            &LIBRARY, &PROFILE, &MEDIA, &PLACE, &ISCSI, &RECORDS, &TIMES, &LOG,
+            &SOURCE, &LIBRARY, &PROFILE, &MEDIA, &PLACE, &ISCSI, &RECORDS, &TIMES, &LOG,
         ],
     },
     CommandRow {

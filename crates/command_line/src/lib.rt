@@ -1,11 +1,16 @@
-//! The command lines of the program: its commands with their options, the task that one names, and why another names none.
+//! The command lines of the program: its commands with their options, the task that one names, alone or with a file of configuration, and
+//! why another names none.
 #![tactic(auto)]
 
 mod commands;
 mod options;
 mod reading;
+mod serving;
 mod task;
 
 pub use program_options::CommandLineFault;
-pub use reading::task_of;
-pub use task::{ClientOptions, IscsiOptions, MediaOptions, ServeOptions, Task};
+pub use reading::asked_of;
+pub use serving::serve_task;
+pub use task::{
+    Asked, ClientOptions, IscsiOptions, MediaOptions, ServeAim, ServeLine, ServeOptions, Task,
+};

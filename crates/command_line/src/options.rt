@@ -1,6 +1,7 @@
 //! The options of the program's commands, in tables, and how `clap` is given them.
 
 use clap::{Arg, ArgAction, Command, value_parser};
+use given_options::MOST_SESSIONS;
 use program_options::{LibraryOptions, ServeTimes};
 use scsi_nexus::TARGET_PORTS;
 use std::alloc::{AllocError, Global};
@@ -30,10 +31,8 @@ pub(crate) struct OptionRow {
     name: &'static str,
     value: OptionValue,
     presence: Presence,
-    /// The option together with which it can't be given.
+    /// The option together with which it can't be given, where no file has options too.
     excludes: Option<&'static str>,
-    /// The option without which it can't be given.
-    needs: Option<&'static str>,
     help: &'static str,
 }
 
@@ -49,6 +48,24 @@ enum Presence {
 /// What the help calls a time.
 const SECONDS: &str = "SECONDS";
 
+/// Where more is said of how a library is served, and whether it is served at all.
+pub(crate) const SOURCE: [OptionRow; 2] = [
+    OptionRow {
+        name: "config",
+        value: OptionValue::Text("FILE"),
+        presence: Presence::Optional,
+        excludes: None,
+        help: "A file in TOML with options of this command by their names; those given here win",
+    },
+    OptionRow {
+        name: "check",
+        value: OptionValue::Switch,
+        presence: Presence::Optional,
+        excludes: None,
+        help: "Reads all that a start reads, prints what would be served, and ends: takes no lock, writes nothing, and may run next to a server",
+    },
+];
+
 /// What a library is made of.
 pub(crate) const LIBRARY: [OptionRow; 5] = [
     OptionRow {
@@ -56,7 +73,6 @@ pub(crate) const LIBRARY: [OptionRow; 5] = [
         value: OptionValue::Number8("D", LibraryOptions::MIN.drives, LibraryOptions::MAX.drives),
         presence: Presence::Default("1"),
         excludes: None,
-        needs: None,
         help: "How many tape drives there are: logical units 1, 2 and so on",
     },
     OptionRow {
@@ -64,7 +80,6 @@ pub(crate) const LIBRARY: [OptionRow; 5] = [
         value: OptionValue::Number16("S", LibraryOptions::MIN.slots, LibraryOptions::MAX.slots),
         presence: Presence::Default("8"),
         excludes: None,
-        needs: None,
         help: "How many storage elements the changer has",
     },
     OptionRow {
@@ -76,7 +91,6 @@ pub(crate) const LIBRARY: [OptionRow; 5] = [
         ),
         presence: Presence::Default("0"),
         excludes: None,
-        needs: None,
         help: "How many import/export elements the changer has",
     },
     OptionRow {
@@ -88,7 +102,6 @@ pub(crate) const LIBRARY: [OptionRow; 5] = [
         ),
         presence: Presence::Default("1"),
         excludes: None,
-        needs: None,
         help: "How many volumes there are, in the first storage elements",
     },
     OptionRow {
@@ -96,7 +109,6 @@ pub(crate) const LIBRARY: [OptionRow; 5] = [
         value: OptionValue::Text("SIZE"),
         presence: Presence::Default("16M"),
         excludes: None,
-        needs: None,
         help: "How many bytes of blocks a volume takes, from 1M to 64G: a number of bytes, or of KiB, MiB or GiB with K, M or G after it",
     },
 ];
@@ -108,7 +120,6 @@ pub(crate) const PROFILE: [OptionRow; 2] = [
         value: OptionValue::Text("PROFILE"),
         presence: Presence::Optional,
         excludes: None,
-        needs: None,
         help: "How units answer: spec for the commands that sharing tapes needs, or hosts for those that unmodified programs ask for too; spec \
             by default, or as the library in the folder is",
     },
@@ -117,7 +128,6 @@ pub(crate) const PROFILE: [OptionRow; 2] = [
         value: OptionValue::Text("HEX8"),
         presence: Presence::Optional,
         excludes: None,
-        needs: None,
         help: "The number of a library with the profile hosts, in 8 hexadecimal digits: the serial numbers of its units begin with it; by \
             default that of the folder, where one is made once, or without a folder one from the target's name",
     },
@@ -129,7 +139,6 @@ pub(crate) const PROFILE_ALONE: [OptionRow; 1] = [OptionRow {
     value: OptionValue::Text("PROFILE"),
     presence: Presence::Optional,
     excludes: None,
-    needs: None,
     help: "spec for the commands that sharing tapes needs, or hosts for those that unmodified programs ask for too; spec by default",
 }];
 
@@ -140,7 +149,6 @@ pub(crate) const MEDIA: [OptionRow; 3] = [
         value: OptionValue::Text("DIR"),
         presence: Presence::Optional,
         excludes: None,
-        needs: None,
         help: "The folder in which the library is saved: its tapes, and where its volumes are; without it they end with the server",
     },
     OptionRow {
@@ -148,7 +156,6 @@ pub(crate) const MEDIA: [OptionRow; 3] = [
         value: OptionValue::Switch,
         presence: Presence::Optional,
         excludes: None,
-        needs: Some("media"),
         help: "Makes a library in the folder if it has none, and the folder if there is none; without this option such a folder is refused",
     },
     OptionRow {
@@ -156,7 +163,6 @@ pub(crate) const MEDIA: [OptionRow; 3] = [
         value: OptionValue::Text("SIZE"),
         presence: Presence::Optional,
         excludes: None,
-        needs: None,
         help: "How many bytes of memory all volumes together may take, from 1M to 65536G; a write that finds none left ends in BUSY",
     },
 ];
@@ -167,7 +173,6 @@ pub(crate) const EXPLAIN: [OptionRow; 1] = [OptionRow {
     value: OptionValue::Switch,
     presence: Presence::Optional,
     excludes: None,
-    needs: None,
     help: "Prints a line in words after each reply; it begins with #",
 }];
 
@@ -178,7 +183,6 @@ pub(crate) const AUDIT: [OptionRow; 2] = [
         value: OptionValue::Switch,
         presence: Presence::Optional,
         excludes: None,
-        needs: None,
         help: "Prints a line for each record after the replies, LUN 0 first",
     },
     OptionRow {
@@ -186,7 +190,6 @@ pub(crate) const AUDIT: [OptionRow; 2] = [
         value: OptionValue::Switch,
         presence: Presence::Optional,
         excludes: Some("audit"),
-        needs: None,
         help: "The same, each line with the reservation that was held before its record",
     },
 ];
@@ -198,7 +201,6 @@ pub(crate) const CLIENT: [OptionRow; 3] = [
         value: OptionValue::Text("PATH"),
         presence: Presence::Required,
         excludes: None,
-        needs: None,
         help: "The path of the served library's socket",
     },
     OptionRow {
@@ -206,7 +208,6 @@ pub(crate) const CLIENT: [OptionRow; 3] = [
         value: OptionValue::Text("HEX"),
         presence: Presence::Required,
         excludes: None,
-        needs: None,
         help: "The SAS address of the host, in 16 hexadecimal digits",
     },
     OptionRow {
@@ -214,7 +215,6 @@ pub(crate) const CLIENT: [OptionRow; 3] = [
         value: OptionValue::Number16("P", 1, TARGET_PORTS),
         presence: Presence::Required,
         excludes: None,
-        needs: None,
         help: "The target port through which the host connects",
     },
 ];
@@ -225,7 +225,6 @@ pub(crate) const CELLS: [OptionRow; 1] = [OptionRow {
     value: OptionValue::Operand("CLASS"),
     presence: Presence::Optional,
     excludes: None,
-    needs: None,
     help: "The one class of commands to print, by its name in the table",
 }];
 
@@ -235,7 +234,6 @@ pub(crate) const CHECK: [OptionRow; 1] = [OptionRow {
     value: OptionValue::Operand("DIR"),
     presence: Presence::Required,
     excludes: None,
-    needs: None,
     help: "The folder of the library",
 }];
 
@@ -246,23 +244,20 @@ pub(crate) const PLACE: [OptionRow; 3] = [
         value: OptionValue::Text("PATH"),
         presence: Presence::Optional,
         excludes: None,
-        needs: None,
         help: "The path of the socket that the server makes",
     },
     OptionRow {
         name: "sessions",
-        value: OptionValue::Number8("N", 1, 64),
+        value: OptionValue::Number8("N", 1, MOST_SESSIONS),
         presence: Presence::Optional,
-        excludes: Some("iscsi"),
-        needs: None,
+        excludes: None,
         help: "Ends after this many connections; without it the library is served until standard input ends",
     },
     OptionRow {
         name: "workers",
-        value: OptionValue::Number8("W", 1, 64),
+        value: OptionValue::Number8("W", 1, MOST_SESSIONS),
         presence: Presence::Optional,
-        excludes: Some("sessions"),
-        needs: None,
+        excludes: None,
         help: "How many sessions may be in at a time, at the socket and at each portal; 64 by default",
     },
 ];
@@ -274,7 +269,6 @@ pub(crate) const ISCSI: [OptionRow; 8] = [
         value: OptionValue::Texts("ADDRESS:PORT"),
         presence: Presence::Optional,
         excludes: None,
-        needs: None,
         help: "Where iSCSI initiators connect, up to 4 times: the k-th is portal group k and target port k; =HOST:PORT after it is the address \
             that is sent to initiators instead, for example if a port is forwarded",
     },
@@ -283,7 +277,6 @@ pub(crate) const ISCSI: [OptionRow; 8] = [
         value: OptionValue::Text("NAME"),
         presence: Presence::Optional,
         excludes: None,
-        needs: Some("iscsi"),
         help: "The target's iSCSI name; iqn.2026-11.localhost:vtl by default",
     },
     OptionRow {
@@ -291,7 +284,6 @@ pub(crate) const ISCSI: [OptionRow; 8] = [
         value: OptionValue::Texts("NAME=SAS"),
         presence: Presence::Optional,
         excludes: None,
-        needs: Some("iscsi"),
         help: "Lets the initiator with this iSCSI name in, as the nexus of this SAS address; up to 64 times",
     },
     OptionRow {
@@ -299,7 +291,6 @@ pub(crate) const ISCSI: [OptionRow; 8] = [
         value: OptionValue::Switch,
         presence: Presence::Optional,
         excludes: None,
-        needs: Some("iscsi"),
         help: "Lets every other initiator in too, as a SAS address that is made from its name",
     },
     OptionRow {
@@ -307,7 +298,6 @@ pub(crate) const ISCSI: [OptionRow; 8] = [
         value: OptionValue::Switch,
         presence: Presence::Optional,
         excludes: None,
-        needs: Some("iscsi"),
         help: "Lets one iSCSI name in from different addresses, such as those of a host with several network cards",
     },
     OptionRow {
@@ -315,7 +305,6 @@ pub(crate) const ISCSI: [OptionRow; 8] = [
         value: OptionValue::Text("FILE"),
         presence: Presence::Optional,
         excludes: None,
-        needs: Some("iscsi"),
         help: "A file with a line NAME USER SECRET for each host; hosts then prove by CHAP that they have their secret",
     },
     OptionRow {
@@ -323,15 +312,13 @@ pub(crate) const ISCSI: [OptionRow; 8] = [
         value: OptionValue::Text("LIST"),
         presence: Presence::Optional,
         excludes: None,
-        needs: Some("chap"),
         help: "Which digests hosts may use for that: sha256, or sha256,md5, which is the default",
     },
     OptionRow {
         name: "no-authentication",
         value: OptionValue::Switch,
         presence: Presence::Optional,
-        excludes: Some("chap"),
-        needs: Some("iscsi"),
+        excludes: None,
         help: "Lets every machine that reaches a portal in by its name alone",
     },
 ];
@@ -343,15 +330,13 @@ pub(crate) const RECORDS: [OptionRow; 3] = [
         value: OptionValue::Switch,
         presence: Presence::Optional,
         excludes: None,
-        needs: None,
         help: "Adds to each line the reservation that was held before its record",
     },
     OptionRow {
         name: "drain",
         value: OptionValue::Switch,
         presence: Presence::Optional,
-        excludes: Some("spans"),
-        needs: None,
+        excludes: None,
         help: "Prints records while it serves: after each session, and whenever a unit has 4,096 of them; without it all are kept to the \
             end, or with --sessions until the last session has ended, some 255 bytes a command. With --iscsi this is the default, \
             unless --keep-records or --spans is given",
@@ -360,8 +345,7 @@ pub(crate) const RECORDS: [OptionRow; 3] = [
         name: "keep-records",
         value: OptionValue::Switch,
         presence: Presence::Optional,
-        excludes: Some("drain"),
-        needs: None,
+        excludes: None,
         help: "Keeps the records to the end with --iscsi too",
     },
 ];
@@ -373,7 +357,6 @@ pub(crate) const TIMES: [OptionRow; 5] = [
         value: OptionValue::Number32(SECONDS, 0, ServeTimes::MAX_GRACE),
         presence: Presence::Default("10"),
         excludes: None,
-        needs: None,
         help: "How many seconds sessions go on after the server is asked to end",
     },
     OptionRow {
@@ -381,7 +364,6 @@ pub(crate) const TIMES: [OptionRow; 5] = [
         value: OptionValue::Number32(SECONDS, 0, ServeTimes::MAX_TIMEOUT),
         presence: Presence::Default("10"),
         excludes: None,
-        needs: None,
         help: "Closes a connection that hasn't logged in after this many seconds; 0 for never",
     },
     OptionRow {
@@ -389,7 +371,6 @@ pub(crate) const TIMES: [OptionRow; 5] = [
         value: OptionValue::Number32(SECONDS, 0, ServeTimes::MAX_TIMEOUT),
         presence: Presence::Default("0"),
         excludes: None,
-        needs: None,
         help: "Ends a session from which nothing has come for this many seconds; 0 for never",
     },
     OptionRow {
@@ -397,7 +378,6 @@ pub(crate) const TIMES: [OptionRow; 5] = [
         value: OptionValue::Number32(SECONDS, 0, ServeTimes::MAX_TIMEOUT),
         presence: Presence::Default("30"),
         excludes: None,
-        needs: None,
         help: "Ends a session that hasn't taken a reply after this many seconds; 0 for never",
     },
     OptionRow {
@@ -405,7 +385,6 @@ pub(crate) const TIMES: [OptionRow; 5] = [
         value: OptionValue::Number32(SECONDS, 0, ServeTimes::MAX_TIMEOUT),
         presence: Presence::Default("30"),
         excludes: None,
-        needs: None,
         help: "Asks an iSCSI initiator from which nothing has come for this many seconds whether it is still there; 0 for never",
     },
 ];
@@ -416,7 +395,6 @@ pub(crate) const LOG: [OptionRow; 1] = [OptionRow {
     value: OptionValue::Switch,
     presence: Presence::Optional,
     excludes: None,
-    needs: None,
     help: "Prints a line on standard error for each session that begins, ends or takes the place of another, for each iSCSI initiator that \
         logs in, for each iSCSI command number that did not come, and for each command that ended in BUSY",
 }];
@@ -439,7 +417,7 @@ fn argument_of<'a>(alloc: Global, row: &OptionRow) -> Result<Arg<'a>, AllocError
     let argument = with_second_name(named_argument(alloc, row), row.name)?;
     let argument = with_value(argument, row.value);
     let argument = with_presence(argument, row.presence);
-    with_needs(with_exclusion(argument, row.excludes)?, row.needs)
+    with_exclusion(argument, row.excludes)
 }
 
 /// An option with its name and what the help says of it.
@@ -508,13 +486,6 @@ fn with_exclusion<'a>(
 ) -> Result<Arg<'a>, AllocError> {
     match excludes {
         Some(other) => argument.conflicts_with(other),
-        None => Ok(argument),
-    }
-}
-
-fn with_needs<'a>(argument: Arg<'a>, needs: Option<&'static str>) -> Result<Arg<'a>, AllocError> {
-    match needs {
-        Some(other) => argument.requires_arg(other),
         None => Ok(argument),
     }
 }

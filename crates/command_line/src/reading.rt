@@ -1,48 +1,46 @@
-ghost use Rattle.std.specs.Prelude.{◌≡◌, ◌≤◌, IfOk, IfSome};
-ghost use Rattle.program_options.specs.Options.{AreGivenInRange, AreInRange, IsWithin};
-ghost use Rattle.command_line.specs.Tasks.{IsClientOptions, IsDoable, IsIscsiOptions, IsMediaOptions, IsServeOptions, MakesLibrary, MakesServed};
+ghost use Rattle.std.specs.Prelude.{◌≡◌, ◌≤◌, IfOk, IfSome, vec_len};
+ghost use Rattle.program_options.specs.Options.{AreGivenInRange, IsWithin};
+ghost use Rattle.given_options.specs.Ranges.{AreGiven};
+ghost use Rattle.command_line.specs.Tasks.{IsAsked, IsClientOptions, IsDoable, MakesLibrary};
 
 use crate::commands::program;
-use crate::task::{ClientOptions, IscsiOptions, MediaOptions, ServeOptions, Task};
+use crate::task::{Asked, ClientOptions, ServeAim, ServeLine, Task};
 use clap::ArgMatches;
 use clap::parser::ValueSource;
+use given_options::{
+    GivenIscsi, GivenMedia, GivenOptions, GivenPlace, GivenRecords, GivenTimes, MOST_SESSIONS,
+    digests_by, hosts_by, library_number_by, memory_size_by, portals_by, profile_by,
+    target_name_by, volume_size_by,
+};
 use inquiry_data::LibraryNumber;
 use output_lines::{Audit, Explanations};
 use permission_chart::class_named;
 use program_options::{
     ChapDigests, CommandLineFault, GivenLibrary, GivenProfile, LibraryOptions, LibraryProfile,
-    NamedHost, OptionFault, PortalOptions, ServeTimes, ServeUntil, WithoutLibrary, chap_digests_of,
-    host_beside, is_iscsi_name, library_number_of, memory_size_of, most_strangers, nexus_of,
-    number_of_target, portal_of, profile_of, volume_size_of,
+    NamedHost, PortalOptions, nexus_of,
 };
 use scsi_cdb::{Class, Profile};
 use scsi_nexus::TARGET_PORTS;
 use std::alloc::{AllocError, Global};
 
-/// How many workers serve sessions until standard input ends, where nothing else is asked for.
-const DEFAULT_WORKERS: u8 = 64;
-
 /// The number of a library that a script runs through: its replies are the same each time (profile).
 const SCRIPT_NUMBER: LibraryNumber = LibraryNumber { number: 0 };
 
-/// The target's iSCSI name, where nothing else is asked for (profile).
-const DEFAULT_TARGET_NAME: &str = "iqn.2026-11.localhost:vtl";
-
-/// The task that the words of a command line name, the first of them the program's own name.
-pub fn task_of(alloc: Global, words: &[String]) -> Result<Task, CommandLineFault>
-    ensures { IfOk result IsDoable }
+/// What the words of a command line ask for, the first of them the program's own name.
+pub fn asked_of(alloc: Global, words: &[String]) -> Result<Asked, CommandLineFault>
+    ensures { IfOk result IsAsked }
 {
     let matches = program(alloc)?.try_get_matches_from(words)?;
-    task_in(alloc, &matches)
+    match matches.subcommand_matches("serve") {
+        Some(serve) => Ok(Asked::Serving(serve_line_of(alloc, serve)?)),
+        None => Ok(Asked::Task(task_in(alloc, &matches)?)),
+    }
 }
 
-/// The task of what `clap` has read.
+/// The task of what `clap` has read, where no library is served.
 fn task_in(alloc: Global, matches: &ArgMatches) -> Result<Task, CommandLineFault>
     ensures { IfOk result IsDoable }
 {
-    if let Some(serve) = matches.subcommand_matches("serve") {
-        return serve_task(alloc, serve);
-    }
     if let Some(client) = matches.subcommand_matches("client") {
         return Ok(Task::Client(client_options_of(alloc, client)?, explanations_of(client)));
     }
@@ -64,15 +62,18 @@ fn task_in(alloc: Global, matches: &ArgMatches) -> Result<Task, CommandLineFault
     }
 }
 
-fn serve_task(alloc: Global, serve: &ArgMatches) -> Result<Task, CommandLineFault>
-    ensures { IfOk result IsDoable }
+fn serve_line_of(alloc: Global, serve: &ArgMatches) -> Result<ServeLine, CommandLineFault>
+    ensures { IfOk result (λ line. AreGiven line.given) }
 {
-    let given = given_profile_of(alloc, serve)?;
-    let media = media_options_of(alloc, serve, given)?;
-    let library = served_library_of(alloc, serve, &media)?;
-    let serving = serve_options_of(alloc, serve, media)?;
-    let profile = served_profile_of(alloc, serve, given, &serving.media)?;
-    Ok(Task::Serve(library, profile, serving, records_of(serve)))
+    Ok(ServeLine {
+        given: given_options_of(alloc, serve)?,
+        configuration: text_of(alloc, serve.get_str("config"))?,
+        aim: if serve.get_flag("check") {
+            ServeAim::Check
+        } else {
+            ServeAim::Serve
+        },
+    })
 }
 
 fn replay_task(alloc: Global, replay: &ArgMatches) -> Result<Task, CommandLineFault>
@@ -108,12 +109,9 @@ fn given_profile_of(alloc: Global, command: &ArgMatches) -> Result<GivenProfile,
 
 /// The profile that a command names, if it does.
 fn profile_in(alloc: Global, command: &ArgMatches) -> Result<Option<Profile>, CommandLineFault> {
-    let Some(text) = command.get_str("profile") else {
-        return Ok(None);
-    };
-    match profile_of(text) {
-        Ok(profile) => Ok(Some(profile)),
-        Err(fault) => Err(refused_word(alloc, fault, text)),
+    match command.get_str("profile") {
+        Some(word) => Ok(Some(profile_by(alloc, word)?)),
+        None => Ok(None),
     }
 }
 
@@ -122,75 +120,56 @@ fn library_number_in(
     alloc: Global,
     command: &ArgMatches,
 ) -> Result<Option<LibraryNumber>, CommandLineFault> {
-    let Some(text) = command.get_str("library-id") else {
-        return Ok(None);
-    };
-    match library_number_of(text) {
-        Ok(number) => Ok(Some(number)),
-        Err(fault) => Err(refused_word(alloc, fault, text)),
+    match command.get_str("library-id") {
+        Some(word) => Ok(Some(library_number_by(alloc, word)?)),
+        None => Ok(None),
     }
-}
-
-/// The profile of a served library that isn't kept, whose number comes from the target's name unless one is given. Whether one that is kept may
-/// have a number is decided where its folder is opened.
-fn served_profile_of(
-    alloc: Global,
-    command: &ArgMatches,
-    given: GivenProfile,
-    media: &Option<MediaOptions>,
-) -> Result<LibraryProfile, CommandLineFault> {
-    if media.is_none() && !given.is_fitting() {
-        return Err(CommandLineFault::Options(OptionFault::NumberWithoutHosts));
-    }
-    let name = target_name_of(alloc, command)?;
-    Ok(given.made_profile(number_of_target(name.as_str())))
 }
 
 /// What the library of a command is made of.
 fn library_of(alloc: Global, command: &ArgMatches) -> Result<LibraryOptions, CommandLineFault>
     ensures { IfOk result MakesLibrary }
 {
-    let options = library_options_of(alloc, command)?;
+    let size = match volume_size_of(alloc, command)? {
+        Some(size) => size,
+        None => LibraryOptions::DEFAULT.volume_size,
+    };
+    let options = given_library_of(command).options(size);
     options.fits()?;
     Ok(options)
 }
 
-/// The same of a library that may be kept: then its volumes are counted where its folder is opened.
-fn served_library_of(
-    alloc: Global,
-    command: &ArgMatches,
-    media: &Option<MediaOptions>,
-) -> Result<LibraryOptions, CommandLineFault>
-    ensures { IfOk result (λ options. MakesServed options media.now) }
+/// What a command says of how a library is served.
+fn given_options_of(alloc: Global, command: &ArgMatches) -> Result<GivenOptions, CommandLineFault>
+    ensures { IfOk result AreGiven }
 {
-    match media {
-        Some(_) => library_options_of(alloc, command),
-        None => library_of(alloc, command),
+    Ok(GivenOptions {
+        library: given_library_of(command),
+        volume_size: volume_size_of(alloc, command)?,
+        profile: given_profile_of(alloc, command)?,
+        media: given_media_of(alloc, command)?,
+        place: given_place_of(alloc, command)?,
+        iscsi: given_iscsi_of(alloc, command)?,
+        records: GivenRecords {
+            spans: switch_of(command, "spans"),
+            drain: switch_of(command, "drain"),
+            keep_records: switch_of(command, "keep-records"),
+        },
+        times: given_times_of(command),
+        log: switch_of(command, "log"),
+    })
+}
+
+/// How many bytes of blocks a volume takes, if a command says it.
+fn volume_size_of(alloc: Global, command: &ArgMatches) -> Result<Option<u64>, CommandLineFault>
+    ensures { IfOk result (IsWithin 1048576 68719476736) }
+{
+    if !is_said(command, "volume-size") {
+        return Ok(None);
     }
-}
-
-/// What a command says of a library and what else is usual, though it may have more volumes than storage elements.
-fn library_options_of(
-    alloc: Global,
-    command: &ArgMatches,
-) -> Result<LibraryOptions, CommandLineFault>
-    ensures { IfOk result AreInRange }
-{
-    let size = size_of_volumes(alloc, command)?;
-    Ok(given_library_of(command).options(size))
-}
-
-/// How many bytes of blocks a volume takes.
-fn size_of_volumes(alloc: Global, command: &ArgMatches) -> Result<u64, CommandLineFault>
-    ensures { IfOk result (λ size. (1048576 ≤ size) × (size ≤ 68719476736)) }
-{
-    // `clap` sees to it that it isn't absent.
-    let Some(text) = command.get_str("volume-size") else {
-        return Ok(LibraryOptions::DEFAULT.volume_size);
-    };
-    match volume_size_of(text) {
-        Ok(size) => Ok(size),
-        Err(fault) => Err(refused_word(alloc, fault, text)),
+    match command.get_str("volume-size") {
+        Some(word) => Ok(Some(volume_size_by(alloc, word)?)),
+        None => Ok(None),
     }
 }
 
@@ -237,36 +216,117 @@ fn said_number16(command: &ArgMatches, name: &str, least: u16, most: u16) -> Opt
     Some(number.clamp(least, most))
 }
 
+/// The same of 32 bits, of which nothing needs the range.
+fn said_number32(command: &ArgMatches, name: &str) -> Option<u32> {
+    if is_said(command, name) {
+        command.get_one::<u32>(name)
+    } else {
+        None
+    }
+}
+
 /// Whether an option was given. Where it wasn't, `clap` may have a value in its place.
 fn is_said(command: &ArgMatches, name: &str) -> bool {
     matches!(command.value_source(name), Some(ValueSource::CommandLine))
 }
 
-/// Where the library of a command is kept, if it is to be, and what it has to agree with.
-fn media_options_of(
+/// A switch, if it is given.
+fn switch_of(command: &ArgMatches, name: &str) -> Option<bool> {
+    if command.get_flag(name) {
+        Some(true)
+    } else {
+        None
+    }
+}
+
+fn given_media_of(alloc: Global, command: &ArgMatches) -> Result<GivenMedia, CommandLineFault> {
+    let memory = match command.get_str("memory") {
+        Some(word) => Some(memory_size_by(alloc, word)?),
+        None => None,
+    };
+    Ok(GivenMedia {
+        folder: text_of(alloc, command.get_str("media"))?,
+        new_library: switch_of(command, "new-library"),
+        memory,
+    })
+}
+
+fn given_place_of(alloc: Global, command: &ArgMatches) -> Result<GivenPlace, CommandLineFault>
+    ensures { IfOk result (λ place. IsWithin 1 64 place.sessions × IsWithin 1 64 place.workers) }
+{
+    Ok(GivenPlace {
+        socket: text_of(alloc, command.get_str("socket"))?,
+        sessions: said_number8(command, "sessions", 1, MOST_SESSIONS),
+        workers: said_number8(command, "workers", 1, MOST_SESSIONS),
+    })
+}
+
+fn given_iscsi_of(alloc: Global, command: &ArgMatches) -> Result<GivenIscsi, CommandLineFault>
+    ensures { IfOk result (λ iscsi. IfSome iscsi.portals (λ p. (1 ≤ vec_len p) × (vec_len p ≤ 4))) }
+{
+    Ok(GivenIscsi {
+        portals: portals_of(alloc, command)?,
+        target_name: target_name_of(alloc, command)?,
+        hosts: hosts_of(alloc, command)?,
+        any_host: switch_of(command, "any-host"),
+        multipath: switch_of(command, "multipath"),
+        chap: text_of(alloc, command.get_str("chap"))?,
+        chap_digests: digests_of(alloc, command)?,
+        no_authentication: switch_of(command, "no-authentication"),
+    })
+}
+
+/// How long a command has a library wait for its hosts.
+fn given_times_of(command: &ArgMatches) -> GivenTimes {
+    GivenTimes {
+        grace: said_number32(command, "grace"),
+        login: said_number32(command, "login-timeout"),
+        idle: said_number32(command, "idle-timeout"),
+        write: said_number32(command, "write-timeout"),
+        ping: said_number32(command, "idle-ping"),
+    }
+}
+
+/// Where iSCSI initiators connect.
+fn portals_of(
     alloc: Global,
     command: &ArgMatches,
-    profile: GivenProfile,
-) -> Result<Option<MediaOptions>, AllocError>
-    ensures { IfOk result (λ media. IfSome media IsMediaOptions) }
+) -> Result<Option<Vec<PortalOptions>>, CommandLineFault>
+    ensures { IfOk result (λ portals. IfSome portals (λ p. (1 ≤ vec_len p) × (vec_len p ≤ 4))) }
 {
-    match command.get_str("media") {
-        Some(folder) => Ok(Some(MediaOptions {
-            folder: String::from_str(alloc, folder)?,
-            without: without_library_of(command),
-            given: given_library_of(command),
-            profile,
-        })),
+    match command.get_strs("iscsi") {
+        Some(words) => Ok(Some(portals_by(alloc, words)?)),
         None => Ok(None),
     }
 }
 
-/// What is done where the folder of a command has no library.
-fn without_library_of(command: &ArgMatches) -> WithoutLibrary {
-    if command.get_flag("new-library") {
-        WithoutLibrary::Make
-    } else {
-        WithoutLibrary::Refuse
+/// The hosts that a command lets in by name.
+fn hosts_of(
+    alloc: Global,
+    command: &ArgMatches,
+) -> Result<Option<Vec<NamedHost>>, CommandLineFault> {
+    match command.get_strs("host") {
+        Some(words) => Ok(Some(hosts_by(alloc, words)?)),
+        None => Ok(None),
+    }
+}
+
+/// By which digests initiators may prove that a name is theirs.
+fn digests_of(
+    alloc: Global,
+    command: &ArgMatches,
+) -> Result<Option<ChapDigests>, CommandLineFault> {
+    match command.get_str("chap-digests") {
+        Some(word) => Ok(Some(digests_by(alloc, word)?)),
+        None => Ok(None),
+    }
+}
+
+/// The target's iSCSI name.
+fn target_name_of(alloc: Global, command: &ArgMatches) -> Result<Option<String>, CommandLineFault> {
+    match command.get_str("target-name") {
+        Some(word) => Ok(Some(target_name_by(alloc, word)?)),
+        None => Ok(None),
     }
 }
 
@@ -278,17 +338,6 @@ fn checked_folder_of(alloc: Global, media: &ArgMatches) -> Result<String, AllocE
         None => "",
     };
     String::from_str(alloc, folder)
-}
-
-/// How many bytes of memory volumes may take together, if a command says it.
-fn memory_of(alloc: Global, command: &ArgMatches) -> Result<Option<u64>, CommandLineFault> {
-    let Some(text) = command.get_str("memory") else {
-        return Ok(None);
-    };
-    match memory_size_of(text) {
-        Ok(size) => Ok(Some(size)),
-        Err(fault) => Err(refused_word(alloc, fault, text)),
-    }
 }
 
 /// Whether a command wants replies in words, too.
@@ -311,193 +360,11 @@ fn audit_of(command: &ArgMatches) -> Audit {
     }
 }
 
-/// What is printed of the records of a library that was served.
-fn records_of(command: &ArgMatches) -> Audit {
-    if command.get_flag("spans") {
-        Audit::Spans
-    } else {
-        Audit::Lines
-    }
-}
-
-/// How long a command has a library wait for its hosts.
-fn times_of(command: &ArgMatches) -> ServeTimes {
-    // `clap` sees to it that no value is absent: what comes after each `get_one` says that to the prover alone.
-    ServeTimes::of_seconds(
-        command
-            .get_one::<u32>("grace")
-            .unwrap_or(ServeTimes::DEFAULT_GRACE),
-        command
-            .get_one::<u32>("login-timeout")
-            .unwrap_or(ServeTimes::DEFAULT_LOGIN),
-        command
-            .get_one::<u32>("idle-timeout")
-            .unwrap_or(ServeTimes::DEFAULT_IDLE),
-        command
-            .get_one::<u32>("write-timeout")
-            .unwrap_or(ServeTimes::DEFAULT_WRITE),
-        command
-            .get_one::<u32>("idle-ping")
-            .unwrap_or(ServeTimes::DEFAULT_PING),
-    )
-}
-
 /// The value of an option that need not be given.
 fn text_of(alloc: Global, value: Option<&str>) -> Result<Option<String>, AllocError> {
     match value {
         Some(text) => Ok(Some(String::from_str(alloc, text)?)),
         None => Ok(None),
-    }
-}
-
-/// Where the library of a command, which may be kept, is served, for how long, and what is printed meanwhile.
-fn serve_options_of(
-    alloc: Global,
-    command: &ArgMatches,
-    media: Option<MediaOptions>,
-) -> Result<ServeOptions, CommandLineFault>
-    requires { IfSome media IsMediaOptions }
-    ensures some { IfOk result IsServeOptions }
-    ensures kept { IfOk result (λ serving. serving.media ≡ media) }
-{
-    let socket = text_of(alloc, command.get_str("socket"))?;
-    let iscsi = iscsi_options_of(alloc, command)?;
-    let drain = is_drained(command, iscsi.is_some());
-    if socket.is_none() && iscsi.is_none() {
-        return Err(CommandLineFault::Options(OptionFault::NoPlace));
-    }
-    // `clap` sees to it that no value is out of its range: what comes after the getter of the sessions says that to the prover alone.
-    let until = match command.get_one::<u8>("sessions") {
-        Some(sessions) => ServeUntil::Sessions(sessions.clamp(1, 64)),
-        None => {
-            let workers = command.get_one::<u8>("workers").unwrap_or(DEFAULT_WORKERS);
-            ServeUntil::InputEnds(workers.clamp(1, 64))
-        }
-    };
-    Ok(ServeOptions {
-        socket,
-        iscsi,
-        media,
-        memory: memory_of(alloc, command)?,
-        until,
-        drain,
-        times: times_of(command),
-        log: command.get_flag("log"),
-    })
-}
-
-/// Whether records are handed out while a library is served. A server with portals serves for a long time, and would keep all of them.
-fn is_drained(command: &ArgMatches, has_portals: bool) -> bool {
-    let is_kept = command.get_flag("keep-records")
-        || command.get_flag("spans")
-        || command.get_one::<u8>("sessions").is_some();
-    command.get_flag("drain") || has_portals && !is_kept
-}
-
-/// What iSCSI initiators connect to, if any may.
-fn iscsi_options_of(
-    alloc: Global,
-    command: &ArgMatches,
-) -> Result<Option<IscsiOptions>, CommandLineFault>
-    ensures { IfOk result (λ iscsi. IfSome iscsi IsIscsiOptions) }
-{
-    let Some(addresses) = command.get_strs("iscsi") else {
-        return Ok(None);
-    };
-    let chap = text_of(alloc, command.get_str("chap"))?;
-    let is_said = chap.is_some() || command.get_flag("no-authentication");
-    let portals = portals_of(alloc, addresses, is_said)?;
-    let hosts = hosts_of(alloc, command)?;
-    let any_host = command.get_flag("any-host");
-    if hosts.is_empty() && !any_host {
-        return Err(CommandLineFault::Options(OptionFault::NobodyLetIn));
-    }
-    let target_name = target_name_of(alloc, command)?;
-    if portals.len() > usize::from(TARGET_PORTS) {
-        return Err(CommandLineFault::Options(OptionFault::ManyPortals));
-    }
-    // An option that is given has a value: this says it to the prover alone.
-    if portals.is_empty() {
-        return Ok(None);
-    }
-    let most_strangers = most_strangers(any_host, hosts.len(), portals.len())?;
-    Ok(Some(IscsiOptions {
-        portals,
-        target_name,
-        hosts,
-        any_host,
-        most_strangers,
-        multipath: command.get_flag("multipath"),
-        chap,
-        chap_digests: digests_of(alloc, command)?,
-    }))
-}
-
-/// The portals of so many addresses.
-fn portals_of(
-    alloc: Global,
-    words: &[&str],
-    is_said: bool,
-) -> Result<Vec<PortalOptions>, CommandLineFault> {
-    let mut portals = Vec::new(alloc);
-    for word in words {
-        match portal_of(*word, is_said) {
-            Ok(portal) => {
-                let portal = portal.to_portal(alloc)?;
-                portals.push(portal).map_err(AllocError::from)?;
-            }
-            Err(fault) => return Err(refused_word(alloc, fault, *word)),
-        }
-    }
-    Ok(portals)
-}
-
-/// The hosts that a command lets in by name.
-fn hosts_of(alloc: Global, command: &ArgMatches) -> Result<Vec<NamedHost>, CommandLineFault> {
-    let mut hosts = Vec::new(alloc);
-    let Some(words) = command.get_strs("host") else {
-        return Ok(hosts);
-    };
-    for word in words {
-        match host_beside(&hosts, word.as_bytes()) {
-            Ok(host) => {
-                let host = host.to_host(alloc)?;
-                hosts.push(host).map_err(AllocError::from)?;
-            }
-            Err(fault) => return Err(refused_word(alloc, fault, *word)),
-        }
-    }
-    Ok(hosts)
-}
-
-/// By which digests initiators may prove that a name is theirs.
-fn digests_of(alloc: Global, command: &ArgMatches) -> Result<ChapDigests, CommandLineFault> {
-    let Some(text) = command.get_str("chap-digests") else {
-        return Ok(ChapDigests::Sha256AndMd5);
-    };
-    match chap_digests_of(text) {
-        Ok(digests) => Ok(digests),
-        Err(fault) => Err(refused_word(alloc, fault, text)),
-    }
-}
-
-/// The target's iSCSI name.
-fn target_name_of(alloc: Global, command: &ArgMatches) -> Result<String, CommandLineFault> {
-    let name = command
-        .get_str("target-name")
-        .unwrap_or(DEFAULT_TARGET_NAME);
-    if is_iscsi_name(name.as_bytes()) {
-        Ok(String::from_str(alloc, name)?)
-    } else {
-        Err(refused_word(alloc, OptionFault::BadName, name))
-    }
-}
-
-/// A fault of one word.
-fn refused_word(alloc: Global, fault: OptionFault, word: &str) -> CommandLineFault {
-    match String::from_str(alloc, word) {
-        Ok(word) => CommandLineFault::Word(fault, word),
-        Err(_) => CommandLineFault::NoMemory,
     }
 }
 

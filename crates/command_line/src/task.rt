@@ -1,3 +1,4 @@
+use given_options::GivenOptions;
 use output_lines::{Audit, Explanations};
 use program_options::{
     ChapDigests, GivenLibrary, GivenProfile, LibraryOptions, LibraryProfile, NamedHost,
@@ -16,12 +17,40 @@ pub enum Task {
     /// library are what one is made of that isn't there yet, and may ask for more volumes than there are storage elements; its profile is
     /// decided there.
     Serve(LibraryOptions, LibraryProfile, ServeOptions, Audit),
+    /// Print what would be served, and serve nothing.
+    CheckServe(LibraryOptions, LibraryProfile, ServeOptions, Audit),
     /// Send the script of standard input to a served library, and print its replies, in words too where that is wanted.
     Client(ClientOptions, Explanations),
     /// Print the permission table of a profile, or the line of one class of its commands.
     Cells(Profile, Option<Class>),
     /// Print what the images of the volumes hold that are in the folder at this path, and what is wrong with them.
     CheckMedia(String),
+}
+
+/// What a command line asks for.
+#[derive(Drop)]
+pub enum Asked {
+    /// A task.
+    Task(Task),
+    /// A library is to be served, or what would be served is to be checked, by what the command line says of it and a file may add.
+    Serving(ServeLine),
+}
+
+/// What a command line says of how a library is served.
+#[derive(Drop)]
+pub struct ServeLine {
+    pub given: GivenOptions,
+    /// The path of the file that says more, if there is one.
+    pub configuration: Option<String>,
+    pub aim: ServeAim,
+}
+
+/// What is done with a library that may be served.
+#[derive(Clone, Copy, PartialEq, Eq)]
+pub enum ServeAim {
+    Serve,
+    /// It is read, and what would be served is printed.
+    Check,
 }
 
 /// Where a library is served and kept, for how long, when its records are printed, and what is logged of its sessions.
@@ -52,7 +81,7 @@ pub struct MediaOptions {
     pub folder: String,
     /// What is done where it has no library.
     pub without: WithoutLibrary,
-    /// What the command line says of the library.
+    /// What the command line and the file of configuration say of the library.
     pub given: GivenLibrary,
     /// The same of its profile.
     pub profile: GivenProfile,

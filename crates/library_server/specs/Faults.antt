@@ -16,6 +16,7 @@ socket_status (serve.OpenSecrets path) = 2
 socket_status (serve.BadSecrets path number what) = 2
 socket_status (serve.Folder fault) = folder_status fault
 socket_status (serve.Server fault) = host.exit_status fault
+socket_status serve.Lines = 4
 
 -- no secret is told
 abbrev pub line_words : LineFault → List ℕ
@@ -35,3 +36,4 @@ socket_text (serve.BadSecrets path number what) =
     Some (codes "vtl: " ++ (string_bytes path ++ (codes ", line " ++ (decimal number ++ (codes ": " ++ line_words what)))))
 socket_text (serve.Folder fault) = None
 socket_text (serve.Server fault) = Some (host.fault_text fault)
+socket_text serve.Lines = Some (codes "vtl: device fault\nvtl: the lines of what would be served could not be written")

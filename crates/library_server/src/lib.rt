@@ -1,8 +1,10 @@
 //! A library that is served at a socket whose file is made for it, at portals of iSCSI, or at both: for a number of sessions, or until
-//! standard input ends. What opens a library and has it closed is here, with what writes the lines of its records meanwhile.
+//! standard input ends. What opens a library and has it closed is here, with what writes the lines of its records meanwhile, and what says what
+//! would be served.
 #![tactic(auto)]
 
 mod batch;
+mod checking;
 mod handing_out;
 mod iscsi_target;
 mod keeping;
@@ -13,6 +15,7 @@ mod places;
 mod record_source;
 mod saved_library;
 mod secrets_file;
+mod served_lines;
 mod server_fault;
 mod serving;
 mod socket;
@@ -20,6 +23,7 @@ mod socket_fault;
 mod socket_file;
 mod unwritten_teller;
 
+pub use checking::check_serving;
 pub use laws::{fault_rows, worked_rows};
 pub use library_service::LibraryService;
 pub use saved_library::{FolderInventory, FolderKeeper};

@@ -57,14 +57,14 @@ impl<'a> fmt::Display for Notice<'a> {
 }
 
 /// What a word ends with, of so many.
-fn plural(count: u8) -> &'static str
+pub(crate) fn plural(count: u8) -> &'static str
     ensures { result.now ≡ plural count }
 {
     if count == 1 { "" } else { "s" }
 }
 
 /// What stands behind a number that holds at each of so many places.
-fn at_each(count: usize) -> &'static str
+pub(crate) fn at_each(count: usize) -> &'static str
     ensures { result.now ≡ at_each count }
 {
     if count == 1 { "" } else { " at each" }

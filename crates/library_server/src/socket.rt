@@ -96,7 +96,7 @@ pub fn serve<
 }
 
 /// The limit on the memory of all volumes, where there is one.
-fn memory_limit(alloc: Global, memory: Option<u64>) -> Result<MemoryLimit, AllocError> {
+pub(crate) fn memory_limit(alloc: Global, memory: Option<u64>) -> Result<MemoryLimit, AllocError> {
     match memory {
         Some(most) => MemoryLimit::new(alloc, most),
         None => Ok(MemoryLimit::none()),

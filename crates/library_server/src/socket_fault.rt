@@ -24,6 +24,8 @@ pub enum SocketFault {
     /// The library's folder isn't one that can be served.
     Folder(#[from] FolderFault),
     Server(#[from] ServerFault),
+    /// The lines of what would be served can't be written.
+    Lines,
 }
 
 impl SocketFault {
@@ -43,7 +45,7 @@ impl SocketFault {
     {
         match self {
             SocketFault::Listen(fault) => fault.status(),
-            SocketFault::CannotRead(_) => 4,
+            SocketFault::CannotRead(_) | SocketFault::Lines => 4,
             SocketFault::OpenSecrets(_) | SocketFault::BadSecrets(_, _, _) => 2,
             SocketFault::Folder(fault) => fault.status(),
             SocketFault::Server(fault) => fault.status(),
@@ -72,6 +74,9 @@ impl fmt::Display for SocketFault {
             }
             SocketFault::Folder(fault) => write!(f, "{fault}"),
             SocketFault::Server(fault) => write!(f, "{fault}"),
+            SocketFault::Lines => f.write_str(
+                "vtl: device fault\nvtl: the lines of what would be served could not be written",
+            ),
         }
     }
 }

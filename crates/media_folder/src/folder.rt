@@ -9,13 +9,13 @@ use crate::images::{
     FoundVolumes, KeptVolume, find_volumes, keep_volumes, make_volumes, read_volumes,
 };
 use crate::inventory_file::{is_inventory_open, kept_inventory};
-use crate::library_folder::{LibraryFolder, lock_folder};
+use crate::library_folder::{LibraryFolder, is_folder_open, lock_folder};
 use crate::names::volume_path;
 use crate::notice::{Notice, tell};
-use crate::profile::decide_profile;
+use crate::profile::{decide_profile, number_profile};
 use crate::size::{decide_size, least_volumes};
 use crate::wanted::WantedLibrary;
-use library_inventory::{Inventory, LibrarySize, PlacedVolume, Start, place};
+use library_inventory::{Inventory, LibrarySize, PlacedVolume, Start, StartProfile, place};
 use program_options::LibraryProfile;
 use std::alloc::Global;
 use std::fs::{File, Files};
@@ -36,17 +36,18 @@ pub struct OpenedFolder<'a, R: Files<File = File>> {
 
 /// What was read of a folder, in which nothing was changed yet.
 #[derive(Drop)]
-struct ReadLibrary<'a, R: Files<File = File>> {
-    profile: LibraryProfile,
-    size: LibrarySize,
-    found: FoundVolumes<'a, R>,
-    start: Start,
+pub(crate) struct ReadLibrary<'a, R: Files<File = File>> {
+    pub profile: StartProfile,
+    pub size: LibrarySize,
+    pub found: FoundVolumes<'a, R>,
+    pub start: Start,
 }
 
 /// Opens the folder of a library. First everything in it is read: a volume whose file can't be served is left out, and one whose file isn't
 /// there is missing. Then blank volumes are made, until there are as many as were asked for. Each volume takes `volume_size` bytes of
 /// blocks, or as many as it has where these are more, and all take no more memory together than the limit says. What is lost, left or
-/// missing is reported on `errors`. The inventory is read and not written. What is wanted of the library is held against it first.
+/// missing is reported on `errors`. The inventory is read and not written. What is wanted of the library is held against it first. A library
+/// of the hosts' profile that has no number yet gets one before anything is made.
 pub fn open_folder<'a, R: AllocGlobal + Files<File = File> + RandomSource, E: Write>(
     rt: &'a R,
     path: String,
@@ -62,15 +63,8 @@ pub fn open_folder<'a, R: AllocGlobal + Files<File = File> + RandomSource, E: Wr
 {
     let folder = lock_folder(rt, path, wanted.without)?;
     let inventory = kept_inventory(rt, folder.path(), wanted.without)?;
-    let read = read_library(
-        rt,
-        &folder,
-        &inventory,
-        &wanted,
-        volume_size,
-        memory,
-        errors,
-    )?;
+    let path = folder.path();
+    let read = read_library(rt, path, &inventory, &wanted, volume_size, memory, errors)?;
     let ReadLibrary {
         profile,
         size,
@@ -81,6 +75,8 @@ pub fn open_folder<'a, R: AllocGlobal + Files<File = File> + RandomSource, E: Wr
             missing,
         },
     } = read;
+    let profile = number_profile(rt, profile)?;
+    tell_profile(path, &inventory, profile, errors);
     make_volumes(rt, &folder, &made)?;
     find_volumes(
         rt,
@@ -102,9 +98,9 @@ pub fn open_folder<'a, R: AllocGlobal + Files<File = File> + RandomSource, E: Wr
 }
 
 /// Reads what is in a folder next to its inventory, and decides what its library is made of, which profile it has and where its volumes are.
-fn read_library<'a, R: AllocGlobal + Files<File = File> + RandomSource, E: Write>(
+pub(crate) fn read_library<'a, R: AllocGlobal + Files<File = File>, E: Write>(
     rt: &'a R,
-    folder: &LibraryFolder,
+    folder: &str,
     inventory: &Option<Inventory>,
     wanted: &WantedLibrary,
     volume_size: u64,
@@ -121,10 +117,10 @@ fn read_library<'a, R: AllocGlobal + Files<File = File> + RandomSource, E: Write
         None => (None, None),
     };
     let size = decide_size(&wanted.given, kept)?;
-    let profile = decide_profile(rt, &wanted.profile, before)?;
-    let found = read_volumes(rt, folder.path(), volume_size, memory, errors)?;
+    let profile = decide_profile(&wanted.profile, before)?;
+    let found = read_volumes(rt, folder, volume_size, memory, errors)?;
     if found.is_nothing_served() {
-        return Err(FolderFault::NothingServed(String::from_str(rt.alloc(), folder.path())?));
+        return Err(FolderFault::NothingServed(String::from_str(rt.alloc(), folder)?));
     }
     let start = start_of(
         rt.alloc(),
@@ -133,10 +129,8 @@ fn read_library<'a, R: AllocGlobal + Files<File = File> + RandomSource, E: Write
         inventory,
         &found,
     )?;
-    tell_missing(rt, folder.path(), &start.missing, &found.left_out, errors)?;
-    tell_profile(folder.path(), before, profile, errors);
-    if found.is_open || folder.is_open_to_others() || is_inventory_open(rt, folder.path())? {
-        let folder = folder.path();
+    tell_missing(rt, folder, &start.missing, &found.left_out, errors)?;
+    if found.is_open || is_folder_open(rt, folder) || is_inventory_open(rt, folder)? {
         tell(errors, &Notice::OpenToOthers { folder });
     }
     Ok(ReadLibrary {
@@ -148,7 +142,7 @@ fn read_library<'a, R: AllocGlobal + Files<File = File> + RandomSource, E: Write
 }
 
 /// Where the volumes of a library are, by its inventory and the files that are there.
-fn start_of<'a, R: Files<File = File>>(
+pub(crate) fn start_of<'a, R: Files<File = File>>(
     alloc: Global,
     size: LibrarySize,
     least: u16,
@@ -177,11 +171,14 @@ fn start_of<'a, R: Files<File = File>>(
 /// Reports that a library which was kept with the default profile is of the hosts' profile from now on.
 fn tell_profile<E: Write>(
     folder: &str,
-    before: Option<LibraryProfile>,
+    inventory: &Option<Inventory>,
     profile: LibraryProfile,
     errors: &mut E,
 ) {
-    if let (Some(LibraryProfile::Spec), LibraryProfile::Hosts(number)) = (before, profile) {
+    let Some(inventory) = inventory else {
+        return;
+    };
+    if let (LibraryProfile::Spec, LibraryProfile::Hosts(number)) = (inventory.profile(), profile) {
         tell(errors, &Notice::ForHosts { folder, number });
     }
 }

@@ -49,7 +49,7 @@ pub(crate) struct FoundVolumes<'a, R: Files<File = File>> {
 }
 
 impl<'a, R: Files<File = File>> FoundVolumes<'a, R> {
-    fn new(alloc: Global, boot: BootId) -> FoundVolumes<'a, R>
+    pub fn new(alloc: Global, boot: BootId) -> FoundVolumes<'a, R>
         ensures { result.volumes.items ≡ [] }
     {
         FoundVolumes {

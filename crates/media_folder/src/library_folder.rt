@@ -49,14 +49,6 @@ impl LibraryFolder {
         }
     }
 
-    /// Whether users other than its owner may read or write it.
-    pub(crate) fn is_open_to_others(&self) -> bool {
-        match self.folder.metadata() {
-            Ok(metadata) => is_open_to_others(metadata.mode()),
-            Err(_) => false,
-        }
-    }
-
     /// Brings the names of its files to the disk.
     pub(crate) fn sync(&self) -> io::Result<()> {
         self.folder.sync_all()
@@ -77,6 +69,14 @@ pub(crate) fn lock_folder<R: Files<File = File>>(
     match opened(rt, path.as_str()) {
         Ok((folder, metadata)) => locked(path, folder, FileIdentity::of(&metadata)),
         Err(error) => Err(FolderFault::of_folder(path, error.kind())),
+    }
+}
+
+/// Whether users other than its owner may read or write the folder at a path.
+pub(crate) fn is_folder_open<R: Files>(rt: &R, path: &str) -> bool {
+    match fs::metadata(rt, path) {
+        Ok(metadata) => is_open_to_others(metadata.mode()),
+        Err(_) => false,
     }
 }
 

@@ -1,6 +1,6 @@
 ghost use Rattle.command_line.specs.Tasks.{IsDoable, MakesLibrary};
 
-use command_line::{Task, task_of};
+use command_line::{Asked, Task, asked_of};
 use library_start::library;
 use output_lines::{Audit, Explanations};
 use program_options::{LibraryOptions, LibraryProfile, MAX_READS};
@@ -37,8 +37,9 @@ impl Case {
     pub(crate) fn tell(&self, rt: &(impl AllocGlobal + Print)) -> io::Result<()> {
         println!(rt; "{}", self.heading)?;
         let words = words_of(rt.alloc(), &self.heading)?;
-        match task_of(rt.alloc(), &words) {
-            Ok(task) => self.tell_task(rt, task),
+        match asked_of(rt.alloc(), &words) {
+            Ok(Asked::Task(task)) => self.tell_task(rt, task),
+            Ok(Asked::Serving(_)) => println!(rt; "no replay"),
             Err(fault) => println!(rt; "{fault}"),
         }
     }

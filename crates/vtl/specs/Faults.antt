@@ -3,6 +3,8 @@ use Rattle.std.specs.Prelude.{ℕ, List, [], ◌∷◌, ◌++◌, Option, Some, 
 use Rattle.std.specs.Option.{option_map}
 use Rattle.program_options.specs.CommandLineFaults.{command_line_status, command_line_text}
 use Rattle.client_session.specs.Faults as session
+use Rattle.configuration_file.specs.Faults.{configuration_status}
+use Rattle.given_options.specs.Rules.{rule_text}
 use Rattle.library_server.specs.Faults.{socket_status, socket_text}
 use Rattle.media_folder.specs.Faults.{check_status}
 use Rattle.script_input.specs.ReplayFaults as replay
@@ -10,7 +12,7 @@ use Rattle.script_input.specs.InputFaults as input
 use Rattle.vtl.specs.declared.client_fault.ClientFault.{ClientFault}
 use Rattle.vtl.specs.declared.client_fault.ClientFault.TheVariants as client
 use Rattle.vtl.specs.declared.program_fault.ProgramFault.{ProgramFault}
-use Rattle.vtl.specs.declared.program_fault.ProgramFault.TheVariants.{CommandLine, Replay, Serve, Client, Cells, Check}
+use Rattle.vtl.specs.declared.program_fault.ProgramFault.TheVariants.{CommandLine, Options, Configuration, Replay, Serve, Client, Cells, Check}
 
 abbrev pub client_status : ClientFault → ℕ
 client_status (client.Input fault) = input.exit_status fault
@@ -19,6 +21,8 @@ client_status (client.Session fault) = session.exit_status fault
 
 abbrev pub program_status : ProgramFault → ℕ
 program_status (CommandLine fault) = command_line_status fault
+program_status (Options rule) = 2
+program_status (Configuration fault) = configuration_status fault
 program_status (Replay fault) = replay.exit_status fault
 program_status (Serve fault) = socket_status fault
 program_status (Client fault) = client_status fault
@@ -33,6 +37,8 @@ client_text (client.Session fault) = session.fault_text fault
 
 abbrev pub program_text : ProgramFault → Option (List ℕ)
 program_text (CommandLine fault) = command_line_text fault
+program_text (Options rule) = Some (rule_text rule)
+program_text (Configuration fault) = None
 program_text (Replay fault) = Some (replay.fault_text fault)
 program_text (Serve fault) = socket_text fault
 program_text (Client fault) = Some (client_text fault)

@@ -1,12 +1,14 @@
 ghost use Rattle.std.specs.Prelude.{◌≡◌, OnOk, IfOk, IfSome};
 ghost use Rattle.std.specs.Io.KnownBytes.{Appends};
-ghost use Rattle.command_line.specs.Tasks.{IsDoable, MakesLibrary};
+ghost use Rattle.command_line.specs.Tasks.{IsAsked, IsDoable, MakesLibrary};
+ghost use Rattle.given_options.specs.Ranges.{AreGiven};
 ghost use Rattle.vtl.specs.Faults.{ending_line, ending_status};
 
 use crate::client::client;
 use crate::program_fault::ProgramFault;
-use command_line::{CommandLineFault, Task, task_of};
-use library_server::serve;
+use command_line::{Asked, CommandLineFault, ServeLine, Task, asked_of, serve_task};
+use configuration_file::read_configuration;
+use library_server::{check_serving, serve};
 use library_start::library;
 use media_folder::check_folder;
 use output_lines::{Audit, Explanations};
@@ -97,6 +99,10 @@ fn perform<
         Task::Serve(options, profile, serving, audit) => {
             Ok(serve(rt, files, options, profile, serving, audit, errors)?)
         }
+        Task::CheckServe(options, profile, serving, audit) => {
+            let mut out = io::writer(rt);
+            Ok(check_serving(files, options, profile, serving, audit, &mut out, errors)?)
+        }
         Task::Client(host, explanations) => Ok(client(rt, host, explanations)?),
         Task::Cells(profile, class) => {
             write_cells(&mut io::writer(rt), profile, class).map_err(|_| ProgramFault::Cells)
@@ -105,19 +111,46 @@ fn perform<
     }
 }
 
-fn task_of_arguments<R: AllocGlobal + Env>(rt: &R) -> Result<Task, CommandLineFault>
+fn task_of_arguments<R: AllocGlobal + Env + Files>(rt: &R) -> Result<Task, ProgramFault>
     ensures { IfOk result IsDoable }
+{
+    match asked_of_arguments(rt)? {
+        Asked::Task(task) => Ok(task),
+        Asked::Serving(line) => task_of_line(rt, line),
+    }
+}
+
+fn asked_of_arguments<R: AllocGlobal + Env>(rt: &R) -> Result<Asked, CommandLineFault>
+    ensures { IfOk result IsAsked }
 {
     match env::args(rt) {
         Ok(arguments) => {
             let words: Vec<String> = arguments.collect(rt.alloc())?;
-            task_of(rt.alloc(), &words)
+            asked_of(rt.alloc(), &words)
         }
         Err(error) => match error.kind() {
             io::ErrorKind::OutOfMemory => Err(CommandLineFault::NoMemory),
             _ => Err(CommandLineFault::NotText),
         },
     }
+}
+
+/// The task of what a command line says, and where that says nothing what its file of configuration says, if it names one.
+fn task_of_line<R: AllocGlobal + Files>(rt: &R, line: ServeLine) -> Result<Task, ProgramFault>
+    requires { AreGiven line.given }
+    ensures { IfOk result IsDoable }
+{
+    let ServeLine {
+        given,
+        configuration,
+        aim,
+    } = line;
+    let given = match configuration {
+        Some(path) => given.over(read_configuration(rt, path)?),
+        None => given,
+    };
+    given.judge()?;
+    Ok(serve_task(rt.alloc(), aim, given)?)
 }
 
 fn replay_standard_input<R: AllocGlobal + Input + Print>(

@@ -1,5 +1,7 @@
 use crate::client_fault::ClientFault;
 use command_line::CommandLineFault;
+use configuration_file::ConfigurationFault;
+use given_options::OptionRule;
 use library_server::SocketFault;
 use media_folder::CheckFault;
 use replay::ReplayFault;
@@ -11,6 +13,10 @@ use thiserror::Error;
 #[derive(Debug, Drop, Error)]
 pub enum ProgramFault {
     CommandLine(#[from] CommandLineFault),
+    /// Options can't be given together, or one means nothing without another.
+    Options(#[from] OptionRule),
+    /// A file of configuration gives no options.
+    Configuration(#[from] ConfigurationFault),
     Replay(#[from] ReplayFault),
     Serve(#[from] SocketFault),
     Client(#[from] ClientFault),
@@ -24,13 +30,15 @@ impl ProgramFault {
     ghost use Rattle.std.specs.Prelude.{◌≡◌};
     ghost use Rattle.vtl.specs.Faults.{program_status};
 
-    /// The exit status: 2 where arguments, the script or a folder are refused, 3 for want of memory, 4 for a fault
+    /// The exit status: 2 where arguments, a file of configuration, the script or a folder are refused, 3 for want of memory, 4 for a fault
     /// of input or output or of the other end of a session, and 0 after help and the version (profile).
     pub fn status(&self) -> u8
         ensures { result ≡ program_status self.now }
     {
         match self {
             ProgramFault::CommandLine(fault) => fault.status(),
+            ProgramFault::Options(rule) => rule.status(),
+            ProgramFault::Configuration(fault) => fault.status(),
             ProgramFault::Replay(fault) => fault.status(),
             ProgramFault::Serve(fault) => fault.status(),
             ProgramFault::Client(fault) => fault.status(),
@@ -48,6 +56,8 @@ impl fmt::Display for ProgramFault {
     fn fmt<W: fmt::Write>(&self, f: &mut fmt::Formatter<W>) -> fmt::Result {
         match self {
             ProgramFault::CommandLine(fault) => write!(f, "{fault}"),
+            ProgramFault::Options(rule) => write!(f, "{rule}"),
+            ProgramFault::Configuration(fault) => write!(f, "{fault}"),
             ProgramFault::Replay(fault) => write!(f, "{fault}"),
             ProgramFault::Serve(fault) => write!(f, "{fault}"),
             ProgramFault::Client(fault) => write!(f, "{fault}"),

@@ -1,0 +1,4 @@
+pub mod Faults
+pub mod Rows
+pub mod Says
+pub mod Values
