@@ -98,7 +98,8 @@ NO_TAG = f"{NTH} no tag of 1 to 32 letters, digits, _ and -"
 # What is wrong with a text, the text, and what is reported after the path of its file.
 WRONG = {
     "no-toml": ("no TOML", "version = ", "the text is not TOML"),
-    "version-2": ("another version", "version = 2\n", "unknown version 2"),
+    "version-0": ("a version before the first", "version = 0\n", "unknown version 0"),
+    "version-3": ("a later version", "version = 3\n", "unknown version 3"),
     "no-version": ("no version", "drives = 1\n", "version is missing, or has a bad value"),
     "256-drives": ("256 drives", "version = 1\ndrives = 256\nslots = 1\nportals = 0\n", "drives is missing, or has a bad value"),
     "no-volumes": ("volumes that are none", f"{SIZE}volume = 1\n", "volume is missing, or has a bad value"),

@@ -18,7 +18,8 @@ def for_hosts(number: str = NUMBER) -> str:
     return f'profile = "hosts"\nlibrary = "{number}"\n'
 
 
-HOSTS = SIZE + for_hosts()
+# The form of its text is one that programs which know no profiles refuse.
+HOSTS = SIZE.replace("version = 1", "version = 2") + for_hosts()
 
 
 def in_drive(name: str, source: str, key: str = "volume") -> str:
@@ -130,12 +131,22 @@ def becomes_hosts(tried: Tried) -> None:
         host.meets(DRIVE)
         has_number(host, number)
         ended(server)
-    kept = SIZE + for_hosts(number) + volume("A", "storage = 2")
+    kept = HOSTS.replace(NUMBER, number) + volume("A", "storage = 2")
     same("the inventory", folder.inventory(), kept)
     with folder.served() as server:
         same("what is reported at the next start", server.reported_lines(), [])
         ended(server)
     same("the inventory after the next start", folder.inventory(), kept)
+
+
+def first_form(tried: Tried) -> None:
+    """A library for hosts whose text still has the version of all others is one, too."""
+    folder = Folder(tried, A=HI)
+    folder.put(NAME, (SIZE + for_hosts() + A).encode())
+    with folder.served() as server:
+        same("what is reported", server.reported_lines(), [])
+        ended(server)
+    same("the inventory", folder.inventory(), HOSTS + A)
 
 
 def other_numbers(tried: Tried) -> None:
@@ -203,6 +214,7 @@ def default_has_none(tried: Tried) -> None:
 
 
 ROWS = [
+    Row("profile-first-form", "a library for hosts is one in the first form of its text", first_form),
     Row("profile-kept", "a library for hosts keeps its profile, its number and a source", kept_for_hosts),
     Row("profile-sources", "the source of a volume in a drive is where it was last outside drives", sources),
     Row("profile-unknown-source", "a volume in a drive may have no source", unknown_source),

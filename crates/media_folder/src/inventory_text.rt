@@ -11,8 +11,11 @@ use std::alloc::Global;
 use std::fmt::Write;
 use toml::{Table, Value};
 
-/// The version of the text that is written, and the one that is read.
+/// The version of the text of a library of the default profile.
 const VERSION: i64 = 1;
+
+/// That of a library of the hosts' profile. A program that knows no profiles refuses it, and so doesn't drop the library's number.
+const HOSTS_VERSION: i64 = 2;
 
 /// The value of a library's profile, where it is written.
 const HOSTS: &str = "hosts";
@@ -205,7 +208,7 @@ pub fn read_inventory(alloc: Global, text: &str) -> Result<Inventory, ReadFault>
         Err(_) => return Err(ReadFault::NoToml),
     };
     let version = integer_at(&table, InventoryKey::Version)?;
-    if version != VERSION {
+    if !(VERSION..=HOSTS_VERSION).contains(&version) {
         return Err(ReadFault::UnknownVersion(version));
     }
     let size = size_of(&table)?;
@@ -243,6 +246,13 @@ fn words_of(element: Element) -> (&'static str, u16) {
     }
 }
 
+fn version_for(profile: LibraryProfile) -> i64 {
+    match profile {
+        LibraryProfile::Spec => VERSION,
+        LibraryProfile::Hosts(_) => HOSTS_VERSION,
+    }
+}
+
 /// Adds the profile of a library to a text. The default one is written nowhere.
 fn write_profile(text: &mut String, profile: LibraryProfile) -> Result<(), WriteFault> {
     match profile {
@@ -266,7 +276,8 @@ pub fn write_inventory(
         slots,
         import_exports,
     } = inventory.size();
-    writeln!(text, "version = {VERSION}")?;
+    let version = version_for(inventory.profile());
+    writeln!(text, "version = {version}")?;
     write!(
         text,
         "drives = {drives}\nslots = {slots}\nportals = {import_exports}\n"
