@@ -1,5 +1,5 @@
 -- Where each volume lies at a start.
-use Rattle.std.specs.Prelude.{◌≡◌, ℕ, ◌-◌, ◌<◌, ◌≤◌, not, ◌&&◌, ◌||◌, if◌then◌else◌, List, [], ◌∷◌, ◌++◌, length, take, map, filter, fold, count_by, zip, None, IsPermutation}
+use Rattle.std.specs.Prelude.{◌≡◌, Bool, ℕ, ◌-◌, ◌<◌, ◌≤◌, not, ◌&&◌, ◌||◌, if◌then◌else◌, List, [], ◌∷◌, ◌++◌, length, take, map, filter, fold, count_by, zip, None, IsPermutation}
 use Rattle.std.specs.List.{range_with_len}
 use Rattle.std.specs.List.Sorted.{IsSorted}
 use Rattle.tape_medium.specs.declared.volume.VolumeTag.{VolumeTag}
@@ -41,10 +41,17 @@ abbrev pub made_count : (least : ℕ) (images left_out : List VolumeTag) (absent
 made_count least images left_out absent =
     least - length images - length absent - count_by (λ tag. not (is_named absent tag)) left_out
 
+-- whether a file or a volume of the inventory has a tag
+abbrev pub is_used : (named missing : List PlacedVolume) → (images left_out : List VolumeTag) → VolumeTag → Bool
+is_used named missing images left_out tag = has_tag images tag || has_tag left_out tag || is_named named tag || is_named missing tag
+
+-- those of some tags that nothing has
+abbrev pub unused_of : (tags : List VolumeTag) → (named missing : List PlacedVolume) → (images left_out : List VolumeTag) → List VolumeTag
+unused_of tags named missing images left_out = filter (λ tag. not (is_used named missing images left_out tag)) tags
+
 -- they take the first tags that no file and no volume of the inventory has
 abbrev pub unused_tags : (named missing : List PlacedVolume) → (images left_out : List VolumeTag) → List VolumeTag
-unused_tags named missing images left_out =
-    filter (λ tag. not (has_tag images tag || has_tag left_out tag || is_named named tag || is_named missing tag)) usual_tags
+unused_tags = unused_of usual_tags
 
 -- storage elements in which no volume lies, by their numbers
 abbrev pub free_storage : (slots : ℕ) → List PlacedVolume → List ℕ

@@ -21,6 +21,7 @@ pub use inventory::Inventory;
 pub use laws::{
     addresses_read_back, profiles_stay, starts_forget_no_volume, starts_hold_all_images,
 };
+pub use made::unused_of;
 pub use name::{name_of_tag, tag_of_name};
 pub use placed::PlacedVolume;
 pub use placing::{Start, place};

@@ -1,6 +1,6 @@
 ghost use Rattle.std.specs.Prelude.{◌≡◌, ◌<◌, IfOk, take};
 ghost use Rattle.library_inventory.specs.Tags.{five_digits, tag_of};
-ghost use Rattle.library_inventory.specs.Starts.{unused_tags};
+ghost use Rattle.library_inventory.specs.Starts.{is_used, unused_of, unused_tags};
 
 use crate::among::{has_tag, is_named};
 use crate::placed::PlacedVolume;
@@ -35,6 +35,19 @@ fn tag_of(number: u16) -> VolumeTag
     ])
 }
 
+/// Whether a file or a volume of an inventory has a tag.
+fn is_used(
+    named: &[PlacedVolume],
+    missing: &[PlacedVolume],
+    images: &[VolumeTag],
+    left_out: &[VolumeTag],
+    tag: VolumeTag,
+) -> bool
+    ensures { result ≡ is_used named.now missing.now images.now left_out.now tag }
+{
+    has_tag(images, tag) || has_tag(left_out, tag) || is_named(named, tag) || is_named(missing, tag)
+}
+
 /// The first so many tags that no file and no volume of an inventory has, or all where there are fewer.
 #[tactic(auto, unfolding(crate::specs::Tags::usual_tags))]
 pub(crate) fn made_tags(
@@ -49,12 +62,24 @@ pub(crate) fn made_tags(
 {
     (1..NUMBERS_END)
         .map(|number| tag_of(number))
-        .filter(|tag| {
-            !(has_tag(images, *tag)
-                || has_tag(left_out, *tag)
-                || is_named(named, *tag)
-                || is_named(missing, *tag))
-        })
+        .filter(|tag| !is_used(named, missing, images, left_out, *tag))
         .take(count)
+        .collect(alloc)
+}
+
+/// Those of some tags that no file and no volume of an inventory has: volumes that are made with them take nobody's place.
+pub fn unused_of(
+    alloc: Global,
+    tags: &[VolumeTag],
+    named: &[PlacedVolume],
+    missing: &[PlacedVolume],
+    images: &[VolumeTag],
+    left_out: &[VolumeTag],
+) -> Result<Vec<VolumeTag>, AllocError>
+    ensures { IfOk result (λ unused. unused.items ≡ unused_of tags.now named.now missing.now images.now left_out.now) }
+{
+    tags.iter()
+        .copied()
+        .filter(|tag| !is_used(named, missing, images, left_out, *tag))
         .collect(alloc)
 }

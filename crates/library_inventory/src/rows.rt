@@ -9,7 +9,7 @@ ghost use Rattle.library_inventory.specs.Profiles.{nothing_given, profile_at_sta
 ghost use Rattle.program_options.specs.declared.library_profile.LibraryProfile.TheVariants as library;
 ghost use Rattle.scsi_cdb.specs.declared.profile.Profile.TheVariants.{Spec, Hosts};
 ghost use Rattle.library_inventory.specs.Sizes.{size_of};
-ghost use Rattle.library_inventory.specs.Starts.{made_count, put_back};
+ghost use Rattle.library_inventory.specs.Starts.{made_count, put_back, unused_of};
 ghost use Rattle.library_inventory.specs.Tags.{tag_of};
 
 /// Worked rows: tags by number and by name, sizes, where volumes go back that were missing, and how many are made.
@@ -23,6 +23,7 @@ pub fn worked_rows()
     ensures goes_back { put_back (tag_of 1 ∷ []) [] (record { tag = tag_of 1; element = Storage 2; source = None }) ≡ record { tag = tag_of 1; element = Storage 2; source = None } ∷ [] }
     ensures is_taken { put_back (tag_of 1 ∷ []) (record { tag = tag_of 2; element = Storage 2; source = None } ∷ []) (record { tag = tag_of 1; element = Storage 2; source = None }) ≡ record { tag = tag_of 2; element = Storage 2; source = None } ∷ [] }
     ensures is_missing { put_back (tag_of 2 ∷ []) [] (record { tag = tag_of 1; element = Storage 2; source = None }) ≡ [] }
+    ensures unused { unused_of (tag_of 1 ∷ tag_of 2 ∷ tag_of 3 ∷ tag_of 4 ∷ []) (record { tag = tag_of 1; element = Storage 2; source = None } ∷ []) [] (tag_of 2 ∷ []) (tag_of 3 ∷ []) ≡ tag_of 4 ∷ [] }
     ensures made { made_count 5 (tag_of 1 ∷ []) (tag_of 2 ∷ tag_of 3 ∷ []) (record { tag = tag_of 3; element = Storage 0; source = None } ∷ []) ≡ 2 }
 {}
 

@@ -19,6 +19,7 @@ folder_status (folder.BadInventory path fault) = 2
 folder_status (folder.NoSize size) = 2
 folder_status (folder.Start fault) = 2
 folder_status (folder.NothingServed path) = 2
+folder_status (folder.NothingToProtect path) = 2
 folder_status folder.NoName = 2
 folder_status folder.NoNumber = 4
 

@@ -32,15 +32,15 @@ pub fn check_folder<R: AllocGlobal + Files, W: Write, E: Write>(
     errors: &mut E,
 ) -> Result<(), CheckFault> {
     let folder = path.as_str();
-    let Some(inventory) = read_inventory_file(rt, folder)? else {
+    let Some(kept) = read_inventory_file(rt, folder)? else {
         return Err(CheckFault::Folder(FolderFault::NoLibrary(path)));
     };
     let tags = list_volumes(rt, folder, errors)?;
     let mut findings = check_images(rt, folder, &tags, out)?;
     findings.faulty = findings
         .faulty
-        .saturating_add(write_missing(&tags, inventory.volumes(), out)?)
-        .saturating_add(write_missing(&tags, inventory.missing(), out)?);
+        .saturating_add(write_missing(&tags, kept.inventory.volumes(), out)?)
+        .saturating_add(write_missing(&tags, kept.inventory.missing(), out)?);
     match findings {
         Findings {
             faulty: 0,

@@ -31,6 +31,8 @@ pub enum FolderFault {
     Start(StartFault),
     /// There are images in the folder, and none of them can be served.
     NothingServed(String),
+    /// A volume that is to be write-protected has no file, which would be this one.
+    NothingToProtect(String),
     /// A tag has no name that a file can have.
     NoName,
     /// The system gives no random number for a library.
@@ -89,6 +91,7 @@ impl FolderFault {
             | FolderFault::NoSize(_)
             | FolderFault::Start(_)
             | FolderFault::NothingServed(_)
+            | FolderFault::NothingToProtect(_)
             | FolderFault::NoName => 2,
         }
     }
@@ -138,6 +141,10 @@ impl fmt::Display for FolderFault {
             FolderFault::NothingServed(path) => {
                 write!(f, "vtl: {path}: none of the images here can be served")
             }
+            FolderFault::NothingToProtect(path) => write!(
+                f,
+                "vtl: {path}: it is not there, and library.toml wants it write-protected"
+            ),
             FolderFault::InUse(path) => write!(f, "vtl: {path}: another program has this folder"),
             FolderFault::BadInventory(path, fault) => {
                 write!(f, "vtl: {path}: ")?;
@@ -198,6 +205,13 @@ fn write_read_fault<W: fmt::Write>(f: &mut fmt::Formatter<W>, fault: &ReadFault)
             let name = key_name(*key);
             write!(f, "{name} is missing, or has a bad value")
         }
+        ReadFault::BadTags(key) => {
+            let name = key_name(*key);
+            write!(
+                f,
+                "{name} needs a list of tags, each once, of 1 to 32 letters, digits, _ and -"
+            )
+        }
         ReadFault::Volume { nth, fault } => {
             let words = volume_words(*fault);
             write!(f, "of the volumes, counted from 0, number {nth}: {words}")
@@ -223,6 +237,8 @@ fn key_name(key: InventoryKey) -> &'static str {
         InventoryKey::LibraryNumber => "library",
         InventoryKey::Volume => "volume",
         InventoryKey::Missing => "missing",
+        InventoryKey::Blank => "blank",
+        InventoryKey::Protect => "protect",
     }
 }
 

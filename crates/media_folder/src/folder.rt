@@ -6,18 +6,20 @@ ghost use Rattle.media_folder.specs.Volumes.{AreRead, AreVolumesOf};
 
 use crate::fault::FolderFault;
 use crate::images::{
-    FoundVolumes, KeptVolume, find_volumes, keep_volumes, make_volumes, read_volumes,
+    FoundVolumes, KeptVolume, find_volumes, keep_volumes, make_volumes, protect_volumes,
+    read_volumes,
 };
 use crate::inventory_file::{is_inventory_open, kept_inventory};
+use crate::inventory_text::KeptLibrary;
 use crate::library_folder::{LibraryFolder, is_folder_open, lock_folder};
 use crate::names::volume_path;
 use crate::notice::{Notice, tell};
 use crate::profile::{decide_profile, number_profile};
 use crate::size::{decide_size, least_volumes};
 use crate::wanted::WantedLibrary;
-use library_inventory::{Inventory, LibrarySize, PlacedVolume, Start, StartProfile, place};
+use library_inventory::{LibrarySize, PlacedVolume, Start, StartProfile, place, unused_of};
 use program_options::LibraryProfile;
-use std::alloc::Global;
+use std::alloc::{AllocError, Global};
 use std::fs::{File, Files};
 use std::io::Write;
 use std::random::RandomSource;
@@ -40,11 +42,14 @@ pub(crate) struct ReadLibrary<'a, R: Files<File = File>> {
     pub profile: StartProfile,
     pub size: LibrarySize,
     pub found: FoundVolumes<'a, R>,
+    /// The tags of blank volumes that the inventory's file asks for. They have elements as those that were found.
+    pub blank: Vec<VolumeTag>,
     pub start: Start,
 }
 
 /// Opens the folder of a library. First everything in it is read: a volume whose file can't be served is left out, and one whose file isn't
-/// there is missing. Then blank volumes are made, until there are as many as were asked for. Each volume takes `volume_size` bytes of
+/// there is missing. Then the volumes that the inventory's file wants write-protected are, the blank ones that it wants are made, and
+/// others, until there are as many as were asked for. Each volume takes `volume_size` bytes of
 /// blocks, or as many as it has where these are more, and all take no more memory together than the limit says. What is lost, left or
 /// missing is reported on `errors`. The inventory is read and not written. What is wanted of the library is held against it first. A library
 /// of the hosts' profile that has no number yet gets one before anything is made.
@@ -62,21 +67,24 @@ pub fn open_folder<'a, R: AllocGlobal + Files<File = File> + RandomSource, E: Wr
     ensures volumes { IfOk result (λ opened. AreVolumesOf (string_bytes path) opened.volumes.items) }
 {
     let folder = lock_folder(rt, path, wanted.without)?;
-    let inventory = kept_inventory(rt, folder.path(), wanted.without)?;
+    let kept = kept_inventory(rt, folder.path(), wanted.without)?;
     let path = folder.path();
-    let read = read_library(rt, path, &inventory, &wanted, volume_size, memory, errors)?;
+    let read = read_library(rt, path, &kept, &wanted, volume_size, memory, errors)?;
     let ReadLibrary {
         profile,
         size,
         mut found,
+        blank: mut made,
         start: Start {
             volumes: placed,
-            made,
+            made: more,
             missing,
         },
     } = read;
     let profile = number_profile(rt, profile)?;
-    tell_profile(path, &inventory, profile, errors);
+    tell_profile(path, &kept, profile, errors);
+    protect_volumes(rt, &folder, wanted_protected(&kept))?;
+    made.extend_from_slice(&more)?;
     make_volumes(rt, &folder, &made)?;
     find_volumes(
         rt,
@@ -101,7 +109,7 @@ pub fn open_folder<'a, R: AllocGlobal + Files<File = File> + RandomSource, E: Wr
 pub(crate) fn read_library<'a, R: AllocGlobal + Files<File = File>, E: Write>(
     rt: &'a R,
     folder: &str,
-    inventory: &Option<Inventory>,
+    kept: &Option<KeptLibrary>,
     wanted: &WantedLibrary,
     volume_size: u64,
     memory: &MemoryLimit,
@@ -112,23 +120,23 @@ pub(crate) fn read_library<'a, R: AllocGlobal + Files<File = File>, E: Write>(
     ensures size { IfOk result (λ read. IsUsable read.size) }
     ensures volumes { IfOk result (λ read. AreRead folder.now read.found.volumes.items) }
 {
-    let (kept, before) = match inventory {
-        Some(inventory) => (Some(inventory.size()), Some(inventory.profile())),
+    let (size_before, profile_before) = match kept {
+        Some(kept) => (Some(kept.inventory.size()), Some(kept.inventory.profile())),
         None => (None, None),
     };
-    let size = decide_size(&wanted.given, kept)?;
-    let profile = decide_profile(&wanted.profile, before)?;
-    let found = read_volumes(rt, folder, volume_size, memory, errors)?;
+    let size = decide_size(&wanted.given, size_before)?;
+    let profile = decide_profile(&wanted.profile, profile_before)?;
+    let mut protect = Vec::new(rt.alloc());
+    protect.extend_from_slice(wanted_protected(kept))?;
+    let found = read_volumes(rt, folder, protect, volume_size, memory, errors)?;
     if found.is_nothing_served() {
         return Err(FolderFault::NothingServed(String::from_str(rt.alloc(), folder)?));
     }
-    let start = start_of(
-        rt.alloc(),
-        size,
-        least_volumes(&wanted.given, kept),
-        inventory,
-        &found,
-    )?;
+    look_for_protected(rt, folder, wanted_protected(kept), &found)?;
+    let blank = blank_tags(rt.alloc(), kept, &found)?;
+    let least = least_volumes(&wanted.given, size_before);
+    let start = start_of(rt.alloc(), size, least, kept, &found, &blank)?;
+    tell_blank(rt, folder, kept, &blank, errors)?;
     tell_missing(rt, folder, &start.missing, &found.left_out, errors)?;
     if found.is_open || is_folder_open(rt, folder) || is_inventory_open(rt, folder)? {
         tell(errors, &Notice::OpenToOthers { folder });
@@ -137,23 +145,69 @@ pub(crate) fn read_library<'a, R: AllocGlobal + Files<File = File>, E: Write>(
         profile,
         size,
         found,
+        blank,
         start,
     })
 }
 
-/// Where the volumes of a library are, by its inventory and the files that are there.
+/// The tags of volumes that are to be write-protected.
+fn wanted_protected(kept: &Option<KeptLibrary>) -> &[VolumeTag] {
+    match kept {
+        Some(kept) => &kept.protect,
+        None => &[],
+    }
+}
+
+/// Refuses to protect a volume whose file isn't there: its name may be wrong.
+fn look_for_protected<'a, R: AllocGlobal + Files<File = File>>(
+    rt: &R,
+    folder: &str,
+    protect: &[VolumeTag],
+    found: &FoundVolumes<'a, R>,
+) -> Result<(), FolderFault> {
+    for tag in protect {
+        if !found.has(*tag) {
+            let path = volume_path(rt.alloc(), folder, tag)?;
+            return Err(FolderFault::NothingToProtect(path));
+        }
+    }
+    Ok(())
+}
+
+/// The tags of blank volumes that are asked for and that nothing else has.
+fn blank_tags<'a, R: Files<File = File>>(
+    alloc: Global,
+    kept: &Option<KeptLibrary>,
+    found: &FoundVolumes<'a, R>,
+) -> Result<Vec<VolumeTag>, AllocError> {
+    match kept {
+        Some(kept) => unused_of(
+            alloc,
+            &kept.blank,
+            kept.inventory.volumes(),
+            kept.inventory.missing(),
+            &found.tags(alloc)?,
+            &found.left_out,
+        ),
+        None => Ok(Vec::new(alloc)),
+    }
+}
+
+/// Where the volumes of a library are, by its inventory and the files that are there, or are to be made for blank volumes.
 pub(crate) fn start_of<'a, R: Files<File = File>>(
     alloc: Global,
     size: LibrarySize,
     least: u16,
-    inventory: &Option<Inventory>,
+    kept: &Option<KeptLibrary>,
     found: &FoundVolumes<'a, R>,
+    blank: &[VolumeTag],
 ) -> Result<Start, FolderFault> {
-    let (named, missing): (&[PlacedVolume], &[PlacedVolume]) = match inventory {
-        Some(inventory) => (inventory.volumes(), inventory.missing()),
+    let (named, missing): (&[PlacedVolume], &[PlacedVolume]) = match kept {
+        Some(kept) => (kept.inventory.volumes(), kept.inventory.missing()),
         None => (&[], &[]),
     };
-    let images = found.tags(alloc)?;
+    let mut images = found.tags(alloc)?;
+    images.extend_from_slice(blank)?;
     match place(
         alloc,
         size.slots,
@@ -168,17 +222,40 @@ pub(crate) fn start_of<'a, R: Files<File = File>>(
     }
 }
 
+/// Reports blank volumes that aren't made, since something has their tags.
+fn tell_blank<R: AllocGlobal, E: Write>(
+    rt: &R,
+    folder: &str,
+    kept: &Option<KeptLibrary>,
+    blank: &[VolumeTag],
+    errors: &mut E,
+) -> Result<(), FolderFault> {
+    let Some(kept) = kept else {
+        return Ok(());
+    };
+    for tag in &kept.blank {
+        if blank.iter().any(|made| *made == *tag) {
+            continue;
+        }
+        let path = volume_path(rt.alloc(), folder, tag)?;
+        let path = path.as_str();
+        tell(errors, &Notice::NotBlank { path });
+    }
+    Ok(())
+}
+
 /// Reports that a library which was kept with the default profile is of the hosts' profile from now on.
 fn tell_profile<E: Write>(
     folder: &str,
-    inventory: &Option<Inventory>,
+    kept: &Option<KeptLibrary>,
     profile: LibraryProfile,
     errors: &mut E,
 ) {
-    let Some(inventory) = inventory else {
+    let Some(kept) = kept else {
         return;
     };
-    if let (LibraryProfile::Spec, LibraryProfile::Hosts(number)) = (inventory.profile(), profile) {
+    let before = kept.inventory.profile();
+    if let (LibraryProfile::Spec, LibraryProfile::Hosts(number)) = (before, profile) {
         tell(errors, &Notice::ForHosts { folder, number });
     }
 }

@@ -14,14 +14,14 @@ use crate::names::volume_path;
 use crate::notice::{Notice, tell};
 use crate::reading::{ReadVolume, VolumeFile, read_volume};
 use crate::refusal::ImageRefusal;
-use crate::rights::{NEW_FILE, is_open_to_others};
+use crate::rights::{NEW_FILE, is_open_to_others, is_write_protected};
 use crate::seen::SeenFiles;
 use crate::store::FileStore;
 use library_inventory::{Element, PlacedVolume};
 use std::alloc::{AllocError, Global};
-use std::fs::{File, Files, OpenOptions};
+use std::fs::{self, File, Files, OpenOptions};
 use std::io::{self, Write};
-use std::os::unix::fs::OpenOptionsExt;
+use std::os::unix::fs::{OpenOptionsExt, PermissionsExt};
 use tape_flush::{SavedImage, open_image};
 use tape_medium::{MemoryLimit, Volume, VolumeTag};
 
@@ -43,19 +43,22 @@ pub(crate) struct FoundVolumes<'a, R: Files<File = File>> {
     pub left_out: Vec<VolumeTag>,
     /// Whether users other than the owner of one of the files may read or write it.
     pub is_open: bool,
+    /// The tags of those that are write-protected from now on, whatever the modes of their files.
+    protect: Vec<VolumeTag>,
     seen: SeenFiles,
     /// The run of the machine in which they were read.
     boot: BootId,
 }
 
 impl<'a, R: Files<File = File>> FoundVolumes<'a, R> {
-    pub fn new(alloc: Global, boot: BootId) -> FoundVolumes<'a, R>
+    pub fn new(alloc: Global, boot: BootId, protect: Vec<VolumeTag>) -> FoundVolumes<'a, R>
         ensures { result.volumes.items ≡ [] }
     {
         FoundVolumes {
             volumes: Vec::new(alloc),
             left_out: Vec::new(alloc),
             is_open: false,
+            protect,
             seen: SeenFiles::new(alloc),
             boot,
         }
@@ -64,6 +67,12 @@ impl<'a, R: Files<File = File>> FoundVolumes<'a, R> {
     /// Whether there are files of volumes, and none of them can be served.
     pub fn is_nothing_served(&self) -> bool {
         self.volumes.is_empty() && !self.left_out.is_empty()
+    }
+
+    /// Whether there is a file of the volume with a tag.
+    pub fn has(&self, tag: VolumeTag) -> bool {
+        self.volumes.iter().any(|read| read.volume.tag == tag)
+            || self.left_out.iter().any(|left_out| *left_out == tag)
     }
 
     /// The tags of the volumes.
@@ -76,10 +85,12 @@ impl<'a, R: Files<File = File>> FoundVolumes<'a, R> {
 }
 
 /// Reads the files of a folder's volumes, each for `volume_size` bytes of blocks, or for those that it has where these are more, which take
-/// no more memory together than the limit says. A volume whose file can't be served is reported and left out.
+/// no more memory together than the limit says. Those with the tags of `protect` are write-protected. A volume whose file can't be served
+/// is reported and left out.
 pub(crate) fn read_volumes<'a, R: AllocGlobal + Files<File = File>, E: Write>(
     rt: &'a R,
     folder: &str,
+    protect: Vec<VolumeTag>,
     volume_size: u64,
     memory: &MemoryLimit,
     errors: &mut E,
@@ -89,7 +100,7 @@ pub(crate) fn read_volumes<'a, R: AllocGlobal + Files<File = File>, E: Write>(
     ensures { IfOk result (λ found. AreRead folder.now found.volumes.items) }
 {
     let tags = list_volumes(rt, folder, errors)?;
-    let mut found = FoundVolumes::new(rt.alloc(), BootId::now(rt));
+    let mut found = FoundVolumes::new(rt.alloc(), BootId::now(rt), protect);
     find_volumes(rt, folder, &tags, volume_size, memory, &mut found, errors)?;
     Ok(found)
 }
@@ -160,7 +171,12 @@ fn read_unseen<'a, R: AllocGlobal + Files<File = File>, E: Write>(
 {
     let mode = found.seen.look(rt, path)?;
     found.is_open = found.is_open || is_open_to_others(mode);
-    let file = VolumeFile { path, tag, mode };
+    let is_wanted = found.protect.iter().any(|other| *other == tag);
+    let file = VolumeFile {
+        path,
+        tag,
+        is_protected: is_wanted || is_write_protected(mode),
+    };
     read_volume(rt, file, found.boot, volume_size, memory.share()?, errors)
 }
 
@@ -190,6 +206,31 @@ fn make_file<R: Files<File = File>>(rt: &R, path: &str) -> io::Result<()> {
         .mode(NEW_FILE)
         .open(rt, path)?;
     Ok(())
+}
+
+/// Takes from the files of volumes what lets users write them.
+pub(crate) fn protect_volumes<R: AllocGlobal + Files>(
+    rt: &R,
+    folder: &LibraryFolder,
+    tags: &[VolumeTag],
+) -> Result<(), FolderFault> {
+    for tag in tags {
+        let path = volume_path(rt.alloc(), folder.path(), tag)?;
+        if protect_file(rt, path.as_str()).is_err() {
+            return Err(FolderFault::CannotWrite(path));
+        }
+    }
+    Ok(())
+}
+
+/// Takes from a file what lets users write it, if something does.
+fn protect_file<R: Files>(rt: &R, path: &str) -> io::Result<()> {
+    let mut permissions = fs::metadata(rt, path)?.permissions();
+    if is_write_protected(permissions.mode()) {
+        return Ok(());
+    }
+    permissions.set_readonly(true);
+    fs::set_permissions(rt, path, permissions)
 }
 
 /// The volumes that were found, each in the element in which it is from now on, and kept in its file. What a file has that may not be read

@@ -1,6 +1,6 @@
 //! The file of a library's inventory.
 use crate::fault::FolderFault;
-use crate::inventory_text::{read_inventory, write_inventory};
+use crate::inventory_text::{KeptLibrary, read_inventory, write_inventory};
 use crate::library_folder::LibraryFolder;
 use crate::names::path_in;
 use crate::rights::{NEW_FILE, is_open_to_others};
@@ -17,24 +17,24 @@ const NAME: &str = "library.toml";
 /// What is written before it takes the place of the other.
 const NEW_NAME: &str = "library.toml.new";
 
-/// The inventory of a folder, if it has one.
+/// What the inventory's file of a folder says, if it has one.
 pub(crate) fn read_inventory_file<R: AllocGlobal + Files>(
     rt: &R,
     folder: &str,
-) -> Result<Option<Inventory>, FolderFault> {
+) -> Result<Option<KeptLibrary>, FolderFault> {
     let path = path_in(rt.alloc(), folder, NAME)?;
     let text = match fs::read_to_string(rt, path.as_str()) {
         Ok(text) => text,
         Err(error) => return no_text(path, error.kind()),
     };
     match read_inventory(rt.alloc(), text.as_str()) {
-        Ok(inventory) => Ok(Some(inventory)),
+        Ok(kept) => Ok(Some(kept)),
         Err(fault) => Err(FolderFault::of_inventory(path, fault)),
     }
 }
 
 /// What it means that the file of an inventory gives no text.
-fn no_text(path: String, kind: ErrorKind) -> Result<Option<Inventory>, FolderFault> {
+fn no_text(path: String, kind: ErrorKind) -> Result<Option<KeptLibrary>, FolderFault> {
     match kind {
         ErrorKind::NotFound | ErrorKind::NotADirectory => Ok(None),
         ErrorKind::InvalidData => Err(FolderFault::BadInventory(path, ReadFault::NoToml)),
@@ -42,17 +42,17 @@ fn no_text(path: String, kind: ErrorKind) -> Result<Option<Inventory>, FolderFau
     }
 }
 
-/// The inventory of a folder that has one, or in which a library is made.
+/// What the inventory's file says of a folder that has one, or in which a library is made.
 pub(crate) fn kept_inventory<R: AllocGlobal + Files>(
     rt: &R,
     folder: &str,
     without: WithoutLibrary,
-) -> Result<Option<Inventory>, FolderFault> {
+) -> Result<Option<KeptLibrary>, FolderFault> {
     match (read_inventory_file(rt, folder)?, without) {
         (None, WithoutLibrary::Refuse) => {
             Err(FolderFault::NoLibrary(String::from_str(rt.alloc(), folder)?))
         }
-        (inventory, _) => Ok(inventory),
+        (kept, _) => Ok(kept),
     }
 }
 

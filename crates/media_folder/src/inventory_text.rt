@@ -7,9 +7,20 @@ use library_inventory::{
 };
 use program_options::{LibraryProfile, profile_of};
 use scsi_cdb::Profile;
-use std::alloc::Global;
+use std::alloc::{AllocError, Global};
 use std::fmt::Write;
+use tape_medium::VolumeTag;
 use toml::{Table, Value};
+
+/// What the file of an inventory says: the inventory, and what its next start is to do, which is never written by the program.
+#[derive(Drop)]
+pub struct KeptLibrary {
+    pub inventory: Inventory,
+    /// The tags of blank volumes that are to be made. No two are one.
+    pub blank: Vec<VolumeTag>,
+    /// The tags of volumes that are to be write-protected. No two are one.
+    pub protect: Vec<VolumeTag>,
+}
 
 /// The version of the text of a library of the default profile.
 const VERSION: i64 = 1;
@@ -33,6 +44,8 @@ fn key_text(key: InventoryKey) -> &'static str {
         InventoryKey::LibraryNumber => "library",
         InventoryKey::Volume => "volume",
         InventoryKey::Missing => "missing",
+        InventoryKey::Blank => "blank",
+        InventoryKey::Protect => "protect",
     }
 }
 
@@ -199,9 +212,30 @@ fn volumes_at(table: &Table, key: InventoryKey) -> Result<&[Value], ReadFault> {
     }
 }
 
-/// The inventory that a text in TOML 1.0 holds, as `write_inventory` writes it; keys that it doesn't know are passed over. What is
-/// read is an inventory; that it is the one that was written is tested, and not proved.
-pub fn read_inventory(alloc: Global, text: &str) -> Result<Inventory, ReadFault> {
+/// The tags that a text has under a key, none where it isn't there.
+fn tags_at(alloc: Global, table: &Table, key: InventoryKey) -> Result<Vec<VolumeTag>, ReadFault> {
+    let Ok(names) = volumes_at(table, key) else {
+        return Err(ReadFault::BadTags(key));
+    };
+    let mut tags = Vec::new(alloc);
+    'names: for name in names {
+        match named_tag(name) {
+            Some(tag) if !tags.iter().any(|other| *other == tag) => {
+                tags.push(tag).map_err(AllocError::from)?;
+            }
+            Some(_) | None => return Err(ReadFault::BadTags(key)),
+        }
+    }
+    Ok(tags)
+}
+
+fn named_tag(name: &Value) -> Option<VolumeTag> {
+    tag_of_name(name.as_str()?)
+}
+
+/// What a text in TOML 1.0 holds: an inventory, as `write_inventory` writes it, and under `blank` and `protect` what the next start is to do.
+/// Keys that it doesn't know are passed over. What is read is an inventory; that it is the one that was written is tested, and not proved.
+pub fn read_inventory(alloc: Global, text: &str) -> Result<KeptLibrary, ReadFault> {
     let table = match toml::table_from_str(alloc, text) {
         Ok(table) => table,
         Err(fault) if fault.is_memory() => return Err(ReadFault::NoMemory),
@@ -215,7 +249,11 @@ pub fn read_inventory(alloc: Global, text: &str) -> Result<Inventory, ReadFault>
     let mut inventory = Inventory::new(alloc, library_profile_of(&table)?, size);
     add_volumes(&mut inventory, volumes_at(&table, InventoryKey::Volume)?)?;
     add_missing(&mut inventory, volumes_at(&table, InventoryKey::Missing)?)?;
-    Ok(inventory)
+    Ok(KeptLibrary {
+        inventory,
+        blank: tags_at(alloc, &table, InventoryKey::Blank)?,
+        protect: tags_at(alloc, &table, InventoryKey::Protect)?,
+    })
 }
 
 /// Adds one volume to a text, under a key.

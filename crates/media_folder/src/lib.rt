@@ -37,7 +37,7 @@ pub use fault::FolderFault;
 pub use folder::{OpenedFolder, open_folder};
 pub use images::KeptVolume;
 pub use inventory_file::write_inventory_file;
-pub use inventory_text::{read_inventory, write_inventory};
+pub use inventory_text::{KeptLibrary, read_inventory, write_inventory};
 pub use library_folder::LibraryFolder;
 pub use plan::{PlannedFolder, PlannedImage, PlannedVolume, plan_folder};
 pub use rows::{paths_name_volumes, worked_rows};

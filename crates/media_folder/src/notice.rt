@@ -61,6 +61,10 @@ pub(crate) enum Notice<'a> {
         path: &'a str,
         element: Element,
     },
+    /// A blank volume is to be made, and a file or a volume of the inventory has its tag.
+    NotBlank {
+        path: &'a str,
+    },
     /// A library that was kept with the default profile is of the hosts' profile from now on.
     ForHosts {
         folder: &'a str,
@@ -123,6 +127,12 @@ impl<'a> fmt::Display for Notice<'a> {
                 write!(
                     f,
                     "vtl: {path}: it is missing: the volume was in {kind} {number}"
+                )
+            }
+            Notice::NotBlank { path } => {
+                write!(
+                    f,
+                    "vtl: {path}: the library has a volume of this name, so no blank one is made"
                 )
             }
             Notice::ForHosts { folder, number } => write!(

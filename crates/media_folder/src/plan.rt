@@ -64,8 +64,8 @@ pub fn plan_folder<R: AllocGlobal + Files<File = File>, E: Write>(
         return plan_new(rt, &wanted);
     }
     let folder = path.as_str();
-    let inventory = kept_inventory(rt, folder, wanted.without)?;
-    let read = read_library(rt, folder, &inventory, &wanted, volume_size, memory, errors)?;
+    let kept = kept_inventory(rt, folder, wanted.without)?;
+    let read = read_library(rt, folder, &kept, &wanted, volume_size, memory, errors)?;
     planned_of(rt, read)
 }
 
@@ -100,13 +100,18 @@ fn plan_new<R: AllocGlobal + Files<File = File>>(
 {
     let size = decide_size(&wanted.given, None)?;
     let profile = decide_profile(&wanted.profile, None)?;
-    let found: FoundVolumes<'_, R> = FoundVolumes::new(rt.alloc(), BootId::Unknown);
+    let found: FoundVolumes<'_, R> = FoundVolumes::new(
+        rt.alloc(),
+        BootId::Unknown,
+        Vec::new(rt.alloc()),
+    );
     let least = least_volumes(&wanted.given, None);
-    let start = start_of(rt.alloc(), size, least, &None, &found)?;
+    let start = start_of(rt.alloc(), size, least, &None, &found, &[])?;
     let read = ReadLibrary {
         profile,
         size,
         found,
+        blank: Vec::new(rt.alloc()),
         start,
     };
     planned_of(rt, read)
@@ -123,6 +128,7 @@ fn planned_of<'a, R: AllocGlobal + Files<File = File>>(
         profile,
         size,
         found,
+        blank: _,
         start,
     } = read;
     let Start {

@@ -1,5 +1,5 @@
 //! The file of one volume, as it is read at a start.
-ghost use Rattle.std.specs.Prelude.{◌≡◌, ◌<◌, ◌≤◌, IfOk};
+ghost use Rattle.std.specs.Prelude.{◌≡◌, ◌<◌, ◌≤◌, true, IfOk};
 ghost use Rattle.tape_medium.specs.Limits.{capacity_limit};
 ghost use Rattle.media_folder.specs.declared.store.FileAccess.TheVariants.{ReadOnly};
 ghost use Rattle.media_folder.specs.Stores.{is_read_only};
@@ -7,7 +7,6 @@ ghost use Rattle.media_folder.specs.Stores.{is_read_only};
 use crate::boot::BootId;
 use crate::notice::{Notice, tell};
 use crate::refusal::ImageRefusal;
-use crate::rights::is_write_protected;
 use crate::size::{bytes_of_blocks, capacity_for};
 use crate::store::{FileAccess, FileStore};
 use crate::trust::{Trust, trust_in};
@@ -30,12 +29,12 @@ pub(crate) struct ReadVolume<'a, R: Files<File = File>> {
     pub trust: Trust,
 }
 
-/// The file of the volume with a tag: where it is, and its mode.
+/// The file of the volume with a tag: where it is, and whether the volume is write-protected, whichever user runs the program.
 #[derive(Clone, Copy)]
 pub(crate) struct VolumeFile<'a> {
     pub path: &'a str,
     pub tag: VolumeTag,
-    pub mode: u32,
+    pub is_protected: bool,
 }
 
 /// Reads the file of a volume, as far as its record lets it be read in this run of the machine, for `volume_size` bytes of blocks, or for
@@ -53,8 +52,9 @@ pub(crate) fn read_volume<'a, R: AllocGlobal + Files<File = File>, E: Write>(
     ensures tag { IfOk result (λ read. read.volume.tag ≡ file.entry.tag) }
     ensures path { IfOk result (λ read. read.store.path ≡ file.entry.path.now) }
     ensures protected { IfOk result (λ read. read.volume.protected ≡ is_read_only read.store.access) }
+    ensures as_is_wanted { IfOk result (λ read. file.entry.is_protected ≡ true → read.volume.protected ≡ true) }
 {
-    let store = open_file(rt, file.path, file.mode)?;
+    let store = open_file(rt, file.path, file.is_protected)?;
     let trust = trust_in(rt, &store, boot, errors)?;
     let ReadTape { tape, index } = read_file(
         rt.alloc(),
@@ -88,15 +88,16 @@ fn tell_volume<E: Write>(path: &str, access: FileAccess, lost: u64, errors: &mut
     }
 }
 
-/// Opens a volume's file. It is only read if it can't be written, or if its mode lets no user write it, whichever user runs the program.
+/// Opens a volume's file. It is only read if the volume is write-protected, or if the file can't be written.
 fn open_file<'a, R: AllocGlobal + Files<File = File>>(
     rt: &'a R,
     path: &str,
-    mode: u32,
+    is_protected: bool,
 ) -> io::Result<FileStore<'a, R>>
-    ensures { IfOk result (λ store. store.path ≡ path.now) }
+    ensures path { IfOk result (λ store. store.path ≡ path.now) }
+    ensures protected { IfOk result (λ store. is_protected ≡ true → store.access ≡ ReadOnly) }
 {
-    if is_write_protected(mode) {
+    if is_protected {
         return open_to_read(rt, path);
     }
     match OpenOptions::new().read(true).write(true).open(rt, path) {

@@ -16,6 +16,10 @@ pub enum InventoryKey {
     LibraryNumber,
     Volume,
     Missing,
+    /// The tags of blank volumes that the next start makes.
+    Blank,
+    /// The tags of volumes that the next start write-protects.
+    Protect,
 }
 
 /// What is wrong with a volume of an inventory's text.
@@ -48,6 +52,9 @@ pub enum ReadFault {
     /// A key isn't there, or its value isn't one that it may have.
     #[error("bad value")]
     BadKey(InventoryKey),
+    /// A key's value is no list of tags, or has one of them twice.
+    #[error("bad tags")]
+    BadTags(InventoryKey),
     /// One of the volumes, counted from 0.
     #[error("bad volume")]
     Volume { nth: usize, fault: VolumeFault },
@@ -64,6 +71,12 @@ pub enum WriteFault {
     /// A tag has no name that a file can have.
     #[error("a tag with no name")]
     NoName,
+}
+
+impl From<AllocError> for ReadFault {
+    fn from(_error: AllocError) -> ReadFault {
+        ReadFault::NoMemory
+    }
 }
 
 impl From<AllocError> for WriteFault {
