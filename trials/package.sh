@@ -8,8 +8,6 @@ set -eu
 trials=$(cd "$(dirname "$0")" && pwd -P)
 top=${trials%/*}
 port=13260
-suite=bookworm
-mirror=http://deb.debian.org/debian
 packages=systemd-sysv,udev,dbus,kmod,initramfs-tools,linux-image-amd64,open-iscsi,mtx,mt-st,lsscsi,sg3-utils,iproute2
 clean="env -i PATH=/usr/sbin:/usr/bin:/sbin:/bin DEBIAN_FRONTEND=noninteractive LC_ALL=C.UTF-8"
 work=$(mktemp -d)
@@ -20,9 +18,8 @@ server=
 trap '[ -z "$server" ] || kill "$server"; rm -rf "$work"' EXIT
 trap 'exit 1' HUP INT TERM
 
-say() {
-    echo "== $*"
-}
+# shellcheck source=trials/guest.sh
+. "$trials/guest.sh"
 
 # Runs a command in a root, without this machine's environment.
 in_root() {
@@ -78,15 +75,7 @@ make_second
 ls "$work"/*.deb
 
 say "a root"
-if [ ! -e "$kept/root.tar" ]; then
-    debootstrap --variant=minbase --include=$packages $suite "$kept/fresh" $mirror >"$work/debootstrap" || { tail "$work/debootstrap"; exit 1; }
-    rm -f "$kept/fresh"/var/cache/apt/archives/*.deb
-    tar -c -f "$kept/root.tar" -C "$kept/fresh" .
-    rm -rf "$kept/fresh"
-fi
-mkdir "$root" "$guest"
-tar -x -f "$kept/root.tar" -C "$root"
-tar -x -f "$kept/root.tar" -C "$guest"
+make_roots "$packages" "$root" "$guest"
 for each in "$root" "$guest"; do
     cp "$work/$first" "$each/var/tmp/vtl_1.deb"
     cp "$work/second.deb" "$each/var/tmp/vtl_2.deb"
@@ -101,30 +90,7 @@ sed -i "s,127.0.0.1:3260,127.0.0.1:$port=10.0.2.2:$port," "$root/etc/default/vtl
 start_by_hand
 
 say "a guest"
-cp "$trials/package_guest.sh" "$guest/root/guest.sh"
-cat >"$guest/etc/systemd/system/trial.service" <<'END'
-[Unit]
-After=multi-user.target
-
-[Service]
-Type=oneshot
-ExecStart=/bin/sh -c 'exec /bin/sh /root/guest.sh >/dev/ttyS0 2>&1'
-ExecStopPost=/bin/systemctl poweroff --no-block
-
-[Install]
-WantedBy=graphical.target
-END
-printf '[Match]\nName=e*\n\n[Network]\nAddress=10.0.2.15/24\n' >"$guest/etc/systemd/network/guest.network"
-# A login prompt on the console would end what is said there.
-ln -s /dev/null "$guest/etc/systemd/system/serial-getty@ttyS0.service"
-# A guest without KVM may be too slow for the five seconds in which an answer to a ping has to come.
-sed -i 's/^\(node.conn.0..timeo.noop_out_[a-z]* = \).*/\10/' "$guest/etc/iscsi/iscsid.conf"
-in_root "$guest" systemctl enable systemd-networkd.service trial.service
-in_root "$guest" systemctl set-default graphical.target
-mkfs.ext4 -q -d "$guest" "$work/disk" 4G
-timeout 3000 qemu-system-x86_64 -accel tcg -cpu max -m 2G -smp 2 -display none -serial stdio -monitor none -no-reboot \
-    -kernel "$guest/vmlinuz" -initrd "$guest/initrd.img" -append "root=/dev/vda rw console=ttyS0" \
-    -drive "file=$work/disk,if=virtio,format=raw" -nic user,model=virtio-net-pci </dev/null | stdbuf -oL tr -d '\r' | tee "$work/guest_log"
+run_guest "$guest" "$trials/package_guest.sh"
 
 say "the service that was started by hand: its end, its tapes and its records"
 stop_by_hand
@@ -133,6 +99,6 @@ in_root "$root" vtl media check /var/lib/vtl
 wc -l "$root/var/log/vtl/records"
 
 say "what came of it"
-grep -q '^guest: all is as it should be$' "$work/guest_log" || { echo "the guest failed"; exit 1; }
+look_at_guest
 [ "$(stat -c %s "$root/var/lib/vtl/VOL00001.tap")" -gt 1000000 ] || { echo "the tape is not there"; exit 1; }
 echo "all is as it should be"
