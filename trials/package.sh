@@ -35,11 +35,10 @@ line_of_unit() {
         sed -e 's,%t,/run,g' -e 's,%S,/var/lib,g' -e 's,%L,/var/log,g' -e 's/\$\$/$/g'
 }
 
-# The service as its unit starts it, in the root: with the options of its file, as its user, with its folders.
+# The service as its unit starts it, in the root: as its user, with its folders.
 start_by_hand() {
     in_root "$root" install -d -m 750 -o vtl -g vtl /run/vtl /var/log/vtl
     {
-        sed -n 's/^VTL_OPTIONS/export &/p' "$root/etc/default/vtl"
         echo "umask $(line_of_unit UMask)"
         echo "exec $(line_of_unit ExecStart)"
     } >"$root/tmp/start"
@@ -86,7 +85,7 @@ say "without systemd: installed, and started by hand"
 in_root "$root" apt-get install -y /var/tmp/vtl_1.deb
 in_root "$root" vtl --version
 ls -l "$root/var/lib/vtl" "$root/etc/vtl"
-sed -i "s,127.0.0.1:3260,127.0.0.1:$port=10.0.2.2:$port," "$root/etc/default/vtl"
+sed -i "s,127.0.0.1:3260,127.0.0.1:$port=10.0.2.2:$port," "$root/etc/vtl/vtl.toml"
 start_by_hand
 
 say "a guest"

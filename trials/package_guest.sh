@@ -92,11 +92,11 @@ say "removed and purged"
 before=$(cd $tapes && sha256sum ./*)
 apt-get remove -y vtl
 [ "$(systemctl is-active vtl.service)" != active ]
-[ ! -e /usr/bin/vtl ] && [ -e /etc/vtl/chap ] && [ -e /etc/default/vtl ]
+[ ! -e /usr/bin/vtl ] && [ -e /etc/vtl/chap ] && [ -e /etc/vtl/vtl.toml ]
 [ "$before" = "$(cd $tapes && sha256sum ./*)" ] || say "the tapes changed when the service ended"
 before=$(cd $tapes && sha256sum ./*)
 apt-get purge -y vtl
-[ ! -e /etc/vtl ] && [ ! -e /etc/default/vtl ] && [ ! -e /var/log/vtl ]
+[ ! -e /etc/vtl ] && [ ! -e /var/log/vtl ]
 [ "$before" = "$(cd $tapes && sha256sum ./*)" ]
 ls -l $tapes
 
