@@ -215,6 +215,19 @@ impl UnitState {
 }
 
 impl UnitState {
+    ghost use Rattle.std.specs.Prelude.{◌≡◌, ◌≤◌, length};
+    ghost use Rattle.unit_attention.specs.Queues.{slot_limit};
+
+    /// How many nexuses have a slot.
+    pub fn slots_used(&self) -> usize
+        ensures used { result ≡ length self.now.slots }
+        ensures bound { result ≤ slot_limit }
+    {
+        self.queues.used()
+    }
+}
+
+impl UnitState {
     ghost use Rattle.std.specs.Prelude.{◌≡◌, true, None, Some, OnOk, IfOk, IfErr, take};
     ghost use Rattle.pr_core.specs.State.{cell};
     ghost use Rattle.pr_core.specs.Judge.{verdict};

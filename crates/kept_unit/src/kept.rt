@@ -79,6 +79,17 @@ impl<const LUN: u8, L: UnitLedger, D: DeviceServer> Kept<LUN, L, D> {
         }
     }
 
+    /// The unit, to be read.
+    pub fn unit(&self) -> &LogicalUnit<D>
+        ensures unit { result.now.unit ≡ self.now.unit }
+        ensures kind { kind_of self.now.unit.device ≡ kind_at LUN }
+        ensures profile { profile_of self.now.unit.device ≡ L.profile }
+        ensures lun { self.now.unit.state.lun ≡ LUN }
+        ensures few { drives_of self.now.unit.device < 2 ^ 8 }
+    {
+        &self.unit
+    }
+
     /// How many data transfer elements a changer has; 0 for a drive.
     pub fn drives(&self) -> u8
         ensures { result ≡ drives_of self.now.unit.device }

@@ -66,6 +66,13 @@ impl RecordedUnit {
         }
     }
 
+    /// What is kept now.
+    pub(crate) fn state(&self) -> &UnitState
+        ensures { result.now ≡ self.now.state }
+    {
+        &self.state
+    }
+
     pub(crate) fn lun(&self) -> u8
         ensures { result ≡ self.now.state.lun }
     {

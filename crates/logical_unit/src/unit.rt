@@ -5,7 +5,7 @@ use crate::route::Route;
 use crate::state::RecordedUnit;
 use audit_log::{Act, Record};
 use device_server::{Attendant, DeviceServer, Payload};
-use judgement::{Decision, ReceivedCommand, Reply};
+use judgement::{Decision, ReceivedCommand, Reply, UnitState};
 use scsi_cdb::{CommandSet, Kind};
 use scsi_nexus::Nexus;
 use scsi_sense::Condition;
@@ -171,6 +171,24 @@ impl<D: DeviceServer> LogicalUnit<D> {
         ensures { IfOk result (λ lines. map string_bytes lines.items ≡ audit_of self.now.unit) }
     {
         self.state.audit(alloc)
+    }
+}
+
+impl<D: DeviceServer> LogicalUnit<D> {
+    ghost use Rattle.std.specs.Prelude.{◌≡◌};
+
+    /// The device, to be read.
+    pub fn device(&self) -> &D
+        ensures { D.shown result.now ≡ self.now.unit.device }
+    {
+        &self.device
+    }
+
+    /// What it keeps beside its device and its records, to be read.
+    pub fn state(&self) -> &UnitState
+        ensures { result.now ≡ self.now.unit.state }
+    {
+        self.state.state()
     }
 }
 
