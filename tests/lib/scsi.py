@@ -57,6 +57,11 @@ def move(source: int, destination: int) -> bytes:
     return struct.pack(">BBHHHHBB", 0xA5, 0, 0, source, destination, 0, 0, 0)
 
 
+def exchange(source: int, first: int, second: int) -> bytes:
+    """EXCHANGE MEDIUM: the source's volume goes to the first destination, and that one's to the second."""
+    return struct.pack(">BBHHHHBB", 0xA6, 0, 0, source, first, second, 0, 0)
+
+
 def reserve_in(action: int, length: int) -> bytes:
     """PERSISTENT RESERVE IN, into so many bytes."""
     return struct.pack(">BB5xHx", 0x5E, action, length)

@@ -3,11 +3,11 @@ import re
 import typing
 
 from compare import same
-from folder import HI, MARK, ODD, Folder, ended
-from host import Host, good
+from folder import HI, MARK, ODD, Folder, block, ended
+from host import MEDIUM_CHANGED, Host, good
 from inventories import DRIVE_0, PORTAL_0, SIZE, STORAGE_0, missing, volume
 from play import Row, Tried
-from scsi import CHANGER, DRIVE
+from scsi import CHANGER, DRIVE, TEST_UNIT_READY, exchange
 
 NAME = "library.toml"
 NUMBER = "1A2B3C4D"
@@ -84,6 +84,33 @@ def sources(tried: Tried) -> None:
         same("the inventory after moves", folder.inventory(), HOSTS + in_drive("A", "import_export = 0") + volume("B", "storage = 1"))
         host.moves(DRIVE_0, STORAGE_0 + 3)
         same("the inventory after a move out of it", folder.inventory(), HOSTS + volume("B", "storage = 1") + volume("A", "storage = 3"))
+        ended(server)
+
+
+def exchanged(tried: Tried) -> None:
+    """EXCHANGE MEDIUM changes the volume in the drive for one in a storage element. When it is answered, what was written on the first is kept,
+    and where both are."""
+    folder = Folder(tried, A=HI, B=ODD)
+    folder.put(NAME, (HOSTS + in_drive("A", "storage = 2") + volume("B", "storage = 1")).encode())
+    after = HOSTS + in_drive("B", "storage = 1") + volume("A", "storage = 2")
+    with folder.served() as server:
+        host = Host(server)
+        host.meets(CHANGER)
+        host.meets(DRIVE)
+        host.writes(b"new")
+        host.asks(CHANGER, exchange(STORAGE_0 + 1, DRIVE_0, STORAGE_0 + 2))
+        folder.same_image("the image of the volume that the drive gave", "A.tap", block(b"new"))
+        same("the inventory after an exchange with the drive", folder.inventory(), after)
+        host.asks(DRIVE, TEST_UNIT_READY, MEDIUM_CHANGED)
+        has_source(host, STORAGE_0 + 1)
+        ended(server)
+    with folder.served() as server:
+        host = Host(server)
+        host.meets(CHANGER)
+        has_source(host, STORAGE_0 + 1)
+        host.moves(DRIVE_0, PORTAL_0)
+        host.asks(CHANGER, exchange(STORAGE_0 + 2, PORTAL_0, STORAGE_0))
+        same("the inventory after one without it", folder.inventory(), HOSTS + volume("A", "import_export = 0") + volume("B", "storage = 0"))
         ended(server)
 
 
@@ -217,6 +244,7 @@ ROWS = [
     Row("profile-first-form", "a library for hosts is one in the first form of its text", first_form),
     Row("profile-kept", "a library for hosts keeps its profile, its number and a source", kept_for_hosts),
     Row("profile-sources", "the source of a volume in a drive is where it was last outside drives", sources),
+    Row("profile-exchanged", "an exchange keeps what is on the volume that a drive gave, and where both volumes are", exchanged),
     Row("profile-unknown-source", "a volume in a drive may have no source", unknown_source),
     Row("profile-missing-source", "a missing volume keeps its source", missing_source),
     Row("profile-becomes-hosts", "a library becomes one for hosts, with a number that is kept", becomes_hosts),

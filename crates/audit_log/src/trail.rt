@@ -66,6 +66,18 @@ impl Trail {
         self.records.reserve(1)
     }
 
+    /// Makes room for so many records more, where there isn't. Nothing changes where memory is refused.
+    pub fn reserve(&mut self, count: usize) -> Result<(), AllocError>
+        ensures base { self.new.base ≡ self.old.base }
+        ensures records { self.new.records ≡ self.old.records }
+        ensures room { OnOk result (count ≤ self.new.room) }
+        ensures kept { self.old.room ≤ self.new.room }
+        ensures err { OnErr result (self.new ≡ self.old) }
+        ensures only_without_room { OnErr result (self.old.room < count) }
+    {
+        self.records.reserve(count)
+    }
+
     /// Adds a record with the next number, in room that was made before. Takes no memory.
     pub fn push(&mut self, entry: Record)
         requires room { 0 < self.old.room }

@@ -1,10 +1,10 @@
 //! The changer.
 
-ghost use Rattle.std.specs.Prelude.{◌≡◌, false, IfOk, OnErr, take};
+ghost use Rattle.std.specs.Prelude.{◌≡◌, ◌&&◌, ◌||◌, false, is_none, IfOk, OnErr, take};
 ghost use Rattle.tape_medium.specs.Elements.{element_at, move_refusal};
 ghost use Rattle.tape_medium.specs.Settling.{settles};
 ghost use Rattle.device_server.specs.Changer.{carried, changer_step};
-ghost use Rattle.device_server.specs.Failures.{is_data_transfer};
+ghost use Rattle.device_server.specs.Failures.{is_data_transfer, is_exchange_for_drives};
 ghost use Rattle.device_server.specs.Volumes.{is_move};
 
 use crate::faults::{move_condition, put_fault, take_fault};
@@ -13,7 +13,7 @@ use crate::mode::mode_data;
 use device_server::{BadPlace, DeviceServer, HostChanger, Outcome, Payload, PutFault, TakeFault};
 use element_map::Elements;
 use inquiry_data::UnitIdentity;
-use scsi_cdb::{Kind, Profile, Request};
+use scsi_cdb::{HostRequest, Kind, Profile, Request};
 use scsi_sense::Condition;
 use std::alloc::{AllocError, Global};
 use std::marker::Model;
@@ -86,6 +86,38 @@ impl Changer {
         ensures { result ≡ is_data_transfer (element_at self.now.elements address) }
     {
         address >= FIRST_DATA_TRANSFER && address - FIRST_DATA_TRANSFER < self.elements.drives()
+    }
+
+    /// Whether nothing refuses a MOVE MEDIUM, and one of its ends is a drive's.
+    fn leaves_move(&self, transport: u16, source: u16, destination: u16) -> bool
+        ensures { result ≡ (is_none (move_refusal self.now.elements transport source destination) && (is_data_transfer (element_at self.now.elements source)
+            || is_data_transfer (element_at self.now.elements destination))) }
+    {
+        self.elements
+            .move_refusal(transport, source, destination)
+            .is_none()
+            && (self.is_data_transfer(source) || self.is_data_transfer(destination))
+    }
+
+    /// The same of an EXCHANGE MEDIUM, by its fields too.
+    fn leaves_exchange(&self, command: &HostRequest) -> bool
+        ensures { result ≡ is_exchange_for_drives self.now.elements command.now }
+    {
+        let HostRequest::ExchangeMedium {
+            medium_transport_element_address: transport,
+            source_element_address: source,
+            first_destination_element_address: first,
+            second_destination_element_address: second,
+            invert_first: false,
+            invert_second: false,
+        } = command
+        else {
+            return false;
+        };
+        self.elements
+            .exchange_refusal(*transport, *source, *first, *second)
+            .is_none()
+            && self.elements.has_drive(*source, *first, *second)
     }
 
     /// Carries out a command whose fields aren't refused, as a changer of the default profile.
@@ -211,6 +243,9 @@ impl DeviceServer for Changer {
     }
 
     fn leaves_to_drives(&self, request: &Request) -> bool {
+        if let Request::Host(command) = request {
+            return self.hosts.is_some() && self.leaves_exchange(command);
+        }
         let Request::MoveMedium {
             medium_transport_element_address: transport,
             source_element_address: source,
@@ -220,10 +255,7 @@ impl DeviceServer for Changer {
         else {
             return false;
         };
-        self.elements
-            .move_refusal(*transport, *source, *destination)
-            .is_none()
-            && (self.is_data_transfer(*source) || self.is_data_transfer(*destination))
+        self.leaves_move(*transport, *source, *destination)
     }
 
     fn perform(
@@ -262,6 +294,12 @@ impl DeviceServer for Changer {
     fn note_journey(&mut self, source: u16, destination: u16) {
         if let Some(hosts) = &mut self.hosts {
             hosts.sources.note_move(source, destination);
+        }
+    }
+
+    fn note_exchange(&mut self, source: u16, first: u16, second: u16) {
+        if let Some(hosts) = &mut self.hosts {
+            hosts.sources.note_exchange(source, first, second);
         }
     }
 

@@ -1,12 +1,17 @@
-//! The answers of a changer to commands that only the hosts' profile has.
+//! The commands that only the hosts' profile has, at a changer.
 
-ghost use Rattle.std.specs.Prelude.{◌≡◌, IfOk};
+ghost use Rattle.std.specs.Prelude.{◌≡◌, false, IfOk, OnErr};
 ghost use Rattle.scsi_cdb.specs.declared.kind.Kind.TheVariants as kind;
 ghost use Rattle.log_pages.specs.LogSelect as log;
-ghost use Rattle.device_server.specs.HostChanger.{changer_log_selected, changer_command_answer, positioned};
+ghost use Rattle.element_map.specs.Exchange.{exchange_refusal};
+ghost use Rattle.device_server.specs.HostChanger.{host_view, changer_log_selected, changer_command_step, host_exchanged, positioned};
+ghost use Rattle.device_server.specs.Volumes.{is_exchange};
 
+use crate::faults::move_condition;
 use crate::host_changer::sense_mode;
-use device_server::{Outcome, Payload, codes_answer, log_query, mode_query, told_of_log};
+use device_server::{
+    HostChanger, Outcome, Payload, codes_answer, log_query, mode_query, told_of_log,
+};
 use element_map::Elements;
 use log_pages::{LogSelect, changer_log_data};
 use mode_pages::HeaderForm;
@@ -16,14 +21,18 @@ use std::alloc::{AllocError, Global};
 use supported_commands::supported_task_management;
 use tape_medium::TRANSPORT;
 
-/// The end of such a command, none of which changes a changer. It has no MODE SELECT.
-pub(crate) fn command_answer(
+/// Carries out such a command, of which EXCHANGE MEDIUM alone changes a changer. It has no MODE SELECT.
+pub(crate) fn command_step(
     alloc: Global,
-    elements: &Elements,
+    elements: &mut Elements,
+    hosts: &mut HostChanger,
     command: &HostRequest,
     bytes: &[u8],
 ) -> Result<Outcome, AllocError>
-    ensures { IfOk result (λ outcome. outcome ≡ changer_command_answer elements.now command.now bytes.now) }
+    ensures ok { IfOk result (λ outcome. changer_command_step (host_view elements.old hosts.old) hosts.old command.now bytes.now ≡ (host_view elements.new hosts.new, outcome)) }
+    ensures elements { OnErr result (elements.new ≡ elements.old) }
+    ensures hosts { OnErr result (hosts.new ≡ hosts.old) }
+    ensures want { OnErr result (is_exchange command.now ≡ false) }
 {
     match command {
         HostRequest::SendDiagnostic { .. } => Ok(Outcome::good(Payload::none(alloc))),
@@ -120,7 +129,38 @@ pub(crate) fn command_answer(
         HostRequest::InitializeElementStatusWithRange { .. } => {
             Ok(Outcome::good(Payload::none(alloc)))
         }
+        HostRequest::ExchangeMedium {
+            medium_transport_element_address: transport,
+            source_element_address: source,
+            first_destination_element_address: first,
+            second_destination_element_address: second,
+            ..
+        } => Ok(exchange(alloc, elements, hosts, *transport, *source, *first, *second)),
     }
+}
+
+/// EXCHANGE MEDIUM among the changer's own elements, after which both volumes have a source. One with a drive isn't for the changer alone.
+#[tactic(auto, using(device_server::proofs::ExchangeLemmas::exchanges_alone))]
+fn exchange(
+    alloc: Global,
+    elements: &mut Elements,
+    hosts: &mut HostChanger,
+    transport: u16,
+    source: u16,
+    first: u16,
+    second: u16,
+) -> Outcome
+    ensures { host_exchanged (host_view elements.old hosts.old) hosts.old source first second (exchange_refusal elements.old transport source first second) ≡ (host_view elements.new hosts.new, result) }
+{
+    if let Some(fault) = elements.exchange_refusal(transport, source, first, second) {
+        return Outcome::check(alloc, move_condition(fault));
+    }
+    if elements.has_drive(source, first, second) {
+        return Outcome::check(alloc, Condition::InternalTargetFailure);
+    }
+    elements.exchange_volumes(source, first, second);
+    hosts.sources.note_exchange(source, first, second);
+    Outcome::good(Payload::none(alloc))
 }
 
 /// POSITION TO ELEMENT: nothing is moved.

@@ -8,7 +8,7 @@ ghost use Rattle.device_server.specs.HostChanger.{host_view, addresses_of, host_
 ghost use Rattle.device_server.specs.Volumes.{is_move};
 
 use crate::faults::move_condition;
-use crate::host_answers::command_answer;
+use crate::host_answers::command_step;
 use device_server::{HostChanger, Outcome, Payload, mode_query};
 use element_map::{ElementType, Elements};
 use element_sources::{StatusRequest, host_status};
@@ -83,7 +83,7 @@ pub(crate) fn host_step(
             let status = host_status(alloc, elements, &hosts.sources, library, &query)?;
             Ok(Outcome::good(Payload::of(status).cut(*allocation_length as usize)))
         }
-        Request::Host(command) => command_answer(alloc, elements, command, bytes),
+        Request::Host(command) => command_step(alloc, elements, hosts, command, bytes),
         Request::Rewind
         | Request::RequestSense { .. }
         | Request::ReadBlockLimits

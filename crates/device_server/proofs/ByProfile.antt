@@ -200,6 +200,7 @@ command_good d h (host.ReportSupportedOperationCodes rctd options code action l)
 command_good d h (host.ReportSupportedTaskManagementFunctions repd l) bytes of_drives none = refl
 command_good d h (host.PositionToElement transport destination invert) bytes of_drives none = let no : false ≡ true = of_drives.1 in absurd cc
 command_good d h (host.InitializeElementStatusWithRange fast range start count) bytes of_drives none = let no : false ≡ true = of_drives.0 in absurd cc
+command_good d h (host.ExchangeMedium transport source first second inv1 inv2) bytes of_drives none = let no : false ≡ true = of_drives.0 in absurd cc
 
 -- at a drive of the hosts' profile
 hosts_profile : (d : DriveView) (h : HostDrive) → d.hosts ≡ Some h → profile_of (Drive d) ≡ Hosts

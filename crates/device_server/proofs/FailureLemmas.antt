@@ -1,6 +1,6 @@
 -- Which commands a device ends by 44h/00h.
-use Rattle.std.proofs.Common.{◌≡◌, ℕ, Bool, true, false, List, [], Option, Some, None, Result, Ok, Err, refl, ap, ◌∙◌}
-use Rattle.std.specs.Prelude.{cond, take, length, ◌==◌, ◌||◌, ◌&&◌, ◌-◌, ◌*◌, is_none, nat_le, unsigned_abs, slice_index_or}
+use Rattle.std.proofs.Common.{◌≡◌, ℕ, Bool, true, false, List, [], Option, Some, None, Result, Ok, Err, refl, sym, ap, ◌∙◌, subst}
+use Rattle.std.specs.Prelude.{cond, take, length, ◌==◌, ◌||◌, ◌&&◌, ◌-◌, ◌*◌, is_none, is_some, nat_le, unsigned_abs, slice_index_or}
 use Rattle.std.specs.List.{flat_map}
 use Rattle.scsi_cdb.specs.declared.host_request.HostRequest.{HostRequest}
 use Rattle.scsi_cdb.specs.declared.host_request.HostRequest.TheVariants as host
@@ -25,6 +25,7 @@ use Rattle.tape_medium.specs.declared.item.Item.TheVariants as item
 use Rattle.tape_medium.specs.declared.space.Stop.{Stop}
 use Rattle.tape_medium.specs.declared.space.Stop.TheVariants.{Done, AtMark, AtEnd, AtStart}
 use Rattle.tape_medium.specs.declared.volume.Volume.{Volume}
+use Rattle.element_map.specs.Exchange.{has_drive, exchange_refusal, exchanges}
 use Rattle.mode_pages.specs.ChangerData.{changer_fault, changer_data as changer_mode_data_of}
 use Rattle.mode_pages.specs.DriveData.{answered, drive_fault, drive_data as mode_data_of}
 use Rattle.mode_pages.specs.declared.request.HeaderForm.TheVariants.{Six, Ten}
@@ -45,15 +46,16 @@ use Rattle.device_server.specs.declared.outcome.Outcome.{Outcome}
 use Rattle.device_server.specs.Outcomes.{done, refused, answers}
 use Rattle.device_server.specs.Changer.{moved_alone, carried, changer_step}
 use Rattle.device_server.specs.Drive.{DriveView, read_of, reads, run, bytes_of_object, ended_by, end_of_run, reads_fixed, wrote, unless_protected, unless_nothing, is_fixed_transfer, stopped, space_code, on_tape, in_volume, in_bay, loads, drive_step}
-use Rattle.device_server.specs.Failures.{is_failure, is_data_transfer, is_for_drives, DrivesNeverFail, ChangersFailForDrives}
+use Rattle.device_server.specs.Failures.{is_failure, is_data_transfer, is_exchange_for_drives, is_for_drives, DrivesNeverFail, ChangersFailForDrives}
 use Rattle.device_server.specs.HostFields.{refusal_of}
 use Rattle.device_server.specs.Hosts.{mode_sense, log_sense, log_select, codes_asked, codes_answer}
-use Rattle.device_server.specs.HostChanger.{ChangerView, addresses_of, can_hold, changer_log_selected, changer_command_answer, host_changer_step}
+use Rattle.device_server.specs.HostChanger.{ChangerView, addresses_of, can_hold, changer_log_selected, host_exchanged_alone, host_exchanged, changer_command_step, host_changer_step}
 use Rattle.device_server.specs.HostDrive.{mode_of, mode_state, host_selects, host_loads, not_ready, host_in_volume, host_in_bay, drive_log, host_log_selects, host_command_step, host_drive_step}
 use Rattle.device_server.specs.View.{DeviceView, Drive, Changer, commands_of, field_fault, drive_stepped, changer_stepped, stepped, performed}
-use Rattle.device_server.specs.Volumes.{is_move}
+use Rattle.device_server.specs.Volumes.{is_exchange, is_move}
 use Rattle.device_server.proofs.FaultLemmas.{fault_fails, fails, either_answer, selected_free, mode_sense_free, log_sense_free, log_selected_free, field_free}
-use Rattle.device_server.proofs.FieldLemmas.{move_performed, inverted_performed}
+use Rattle.device_server.proofs.FieldLemmas.{move_performed, inverted_performed, exchange_performed, inverted_exchange}
+use Rattle.device_server.proofs.ExchangeLemmas.{exchanged_alone, exchanges_done}
 use Rattle.device_server.proofs.MoveLemmas.{host_carried_alike}
 
 -- A DRIVE
@@ -195,6 +197,7 @@ host_command_free d h (host.ReportSupportedOperationCodes rctd options code acti
     answers_free l (codes_answer drive_kind rctd (options_at options) code action) (codes_answer_free drive_kind rctd (options_at options) code action)
 host_command_free d h (host.ReportSupportedTaskManagementFunctions repd l) bytes = refl
 host_command_free d h (host.PositionToElement transport destination invert) bytes = refl
+host_command_free d h (host.ExchangeMedium transport source first second inv1 inv2) bytes = refl
 host_command_free d h (host.InitializeElementStatusWithRange fast range start count) bytes = refl
 
 host_drive_free : (d : DriveView) (h : HostDrive) (r : Request) (bytes : List ℕ) → IsFree (host_drive_step d h r bytes)
@@ -265,21 +268,22 @@ positioned_free : (may : Bool) → is_failure (cond may (done []) (refused Inval
 positioned_free true = refl
 positioned_free false = refl
 
-changer_command_free : (e : Elements) (command : HostRequest) (bytes : List ℕ) → is_failure (changer_command_answer e command bytes).sense ≡ false
-changer_command_free e (host.SendDiagnostic code test l) bytes = refl
-changer_command_free e (host.LogSelect pcr sp pc page subpage l) bytes =
+changer_command_free : (c : ChangerView) (h : HostChanger) (command : HostRequest) (bytes : List ℕ) → is_exchange command ≡ false → IsFree (changer_command_step c h command bytes)
+changer_command_free c h (host.SendDiagnostic code test l) bytes other = refl
+changer_command_free c h (host.LogSelect pcr sp pc page subpage l) bytes other =
     changer_log_selected_free (log.selected changer_kind (log_select pcr sp page subpage l) (length bytes)) (log_selected_free changer_kind (log_select pcr sp page subpage l) (length bytes))
-changer_command_free e (host.LogSense ppc sp pc page subpage pointer l) bytes =
+changer_command_free c h (host.LogSense ppc sp pc page subpage pointer l) bytes other =
     answers_free l (changer_log_data (log_sense ppc sp page subpage pointer)) (changer_log_free (log_sense ppc sp page subpage pointer))
-changer_command_free e (host.ModeSelect10 sp l) bytes = refl
-changer_command_free e (host.ModeSense10 dbd pc page subpage l) bytes =
+changer_command_free c h (host.ModeSelect10 sp l) bytes other = refl
+changer_command_free c h (host.ModeSense10 dbd pc page subpage l) bytes other =
     let sense = mode_sense Ten dbd pc page subpage in
-    answers_free l (answered (changer_fault sense) (changer_mode_data_of sense (addresses_of e))) (answered_free (changer_fault sense) (changer_mode_data_of sense (addresses_of e)) (mode_sense_free changer_kind sense))
-changer_command_free e (host.ReportSupportedOperationCodes rctd options code action l) bytes =
+    answers_free l (answered (changer_fault sense) (changer_mode_data_of sense (addresses_of c.elements))) (answered_free (changer_fault sense) (changer_mode_data_of sense (addresses_of c.elements)) (mode_sense_free changer_kind sense))
+changer_command_free c h (host.ReportSupportedOperationCodes rctd options code action l) bytes other =
     answers_free l (codes_answer changer_kind rctd (options_at options) code action) (codes_answer_free changer_kind rctd (options_at options) code action)
-changer_command_free e (host.ReportSupportedTaskManagementFunctions repd l) bytes = refl
-changer_command_free e (host.PositionToElement transport destination invert) bytes = positioned_free (transport == 0 && can_hold e destination)
-changer_command_free e (host.InitializeElementStatusWithRange fast range start count) bytes = refl
+changer_command_free c h (host.ReportSupportedTaskManagementFunctions repd l) bytes other = refl
+changer_command_free c h (host.PositionToElement transport destination invert) bytes other = positioned_free (transport == 0 && can_hold c.elements destination)
+changer_command_free c h (host.InitializeElementStatusWithRange fast range start count) bytes other = refl
+changer_command_free c h (host.ExchangeMedium transport source first second inv1 inv2) bytes other = absurd cc
 
 -- of every command but a move
 host_changer_free : (c : ChangerView) (h : HostChanger) (r : Request) (bytes : List ℕ) → is_move r ≡ false → IsFree (host_changer_step c h r bytes)
@@ -290,7 +294,7 @@ host_changer_free c h (request.ModeSense dbd pc page subpage l) bytes other =
     let sense = mode_sense Six dbd pc page subpage in
     answers_free l (answered (changer_fault sense) (changer_mode_data_of sense (addresses_of c.elements))) (answered_free (changer_fault sense) (changer_mode_data_of sense (addresses_of c.elements)) (mode_sense_free changer_kind sense))
 host_changer_free c h (request.ReadElementStatus voltag type_code start count curdata dvcid l) bytes other = refl
-host_changer_free c h (request.Host command) bytes other = changer_command_free c.elements command bytes
+host_changer_free c h (request.Host command) bytes other = changer_command_free c h command bytes other
 host_changer_free c h r bytes other = refl
 
 changer_free : (e : Elements) (r : Request) → is_move r ≡ false → IsFree (changer_step e r)
@@ -302,22 +306,70 @@ changer_stepped_free None c r bytes other = changer_free c.elements r other
 changer_stepped_free (Some h) c r bytes other = host_changer_free c h r bytes other
 
 stepped_fails : (o : Option HostChanger) (c : ChangerView) (t s d : ℕ) (bytes : List ℕ)
-    → is_failure (changer_stepped o c (request.MoveMedium t s d false) bytes).1.sense ≡ is_for_drives c.elements (request.MoveMedium t s d false)
+    → is_failure (changer_stepped o c (request.MoveMedium t s d false) bytes).1.sense ≡ is_for_drives c (request.MoveMedium t s d false)
 stepped_fails None c t s d bytes = carried_fails c.elements t s d (move_refusal c.elements t s d) refl
 stepped_fails (Some h) c t s d bytes =
     ap (λ (x : Outcome). is_failure x.sense) (host_carried_alike c h s d (move_refusal c.elements t s d))
     ∙ carried_fails c.elements t s d (move_refusal c.elements t s d) refl
 
-for_no_drives : (e : Elements) (r : Request) → is_move r ≡ false → false ≡ is_for_drives e r
-for_no_drives e (request.MoveMedium t s d invert) other = absurd cc
-for_no_drives e r other = refl
+-- an exchange that nothing refuses is carried out where no drive is among its elements
+done_fails : (c : ChangerView) (h : HostChanger) (t s f d : ℕ) (drive : Bool) (r : Result Elements MapFault) → exchange_refusal c.elements t s f d ≡ None
+    → has_drive c.elements s f d ≡ drive → exchanges c.elements s f d ≡ r → is_failure (host_exchanged_alone c h s f d r).1.sense ≡ drive
+done_fails c h t s f d drive (Ok after) none has is = sym (exchanged_alone c.elements after s f d is) ∙ has
+done_fails c h t s f d true (Err fault) none has is = refl
+done_fails c h t s f d false (Err fault) none has is =
+    let does = exchanges_done c.elements t s f d none has in
+    let differs : Err fault ≡ Ok does.0 = sym is ∙ does.1 in
+    absurd cc
 
-other_fails : (c : ChangerView) (r : Request) (bytes : List ℕ) → is_move r ≡ false → is_failure (performed (Changer c) r bytes).1.sense ≡ is_for_drives c.elements r
-other_fails c r bytes other = performs_free (Changer c) r bytes (changer_stepped_free c.hosts c r bytes other) ∙ for_no_drives c.elements r other
+exchanged_fails : (c : ChangerView) (h : HostChanger) (t s f d : ℕ) (o : Option MapFault) → exchange_refusal c.elements t s f d ≡ o
+    → is_failure (host_exchanged c h s f d o).1.sense ≡ (is_none o && has_drive c.elements s f d)
+exchanged_fails c h t s f d (Some BadAddress) is = refl
+exchanged_fails c h t s f d (Some SourceEmpty) is = refl
+exchanged_fails c h t s f d (Some DestinationFull) is = refl
+exchanged_fails c h t s f d None is = done_fails c h t s f d (has_drive c.elements s f d) (exchanges c.elements s f d) is refl refl
+
+-- no other command is for the drives
+and_false : (o : Option HostChanger) → false ≡ (is_some o && false)
+and_false None = refl
+and_false (Some h) = refl
+
+for_no_exchange : (o : Option HostChanger) (e : Elements) (command : HostRequest) → is_exchange command ≡ false → false ≡ (is_some o && is_exchange_for_drives e command)
+for_no_exchange o e (host.ExchangeMedium t s f d inv1 inv2) other = absurd cc
+for_no_exchange o e command other = and_false o
+
+for_no_drives : (c : ChangerView) (r : Request) → is_move r ≡ false → false ≡ is_for_drives c r
+for_no_drives c (request.MoveMedium t s d invert) other = absurd cc
+for_no_drives c (request.Host command) other = for_no_exchange c.hosts c.elements command other
+for_no_drives c r other = refl
+
+other_fails : (c : ChangerView) (r : Request) (bytes : List ℕ) → is_move r ≡ false → is_failure (performed (Changer c) r bytes).1.sense ≡ is_for_drives c r
+other_fails c r bytes other = performs_free (Changer c) r bytes (changer_stepped_free c.hosts c r bytes other) ∙ for_no_drives c r other
+
+-- of an EXCHANGE MEDIUM by the profile, of which the default one has none
+exchange_fails : (o : Option HostChanger) (c : ChangerView) (t s f d : ℕ) (inv1 inv2 : Bool) (bytes : List ℕ) → c.hosts ≡ o
+    → is_failure (performed (Changer c) (request.Host (host.ExchangeMedium t s f d inv1 inv2)) bytes).1.sense
+    ≡ (is_some o && is_exchange_for_drives c.elements (host.ExchangeMedium t s f d inv1 inv2))
+exchange_fails None c t s f d inv1 inv2 bytes is =
+    performs_free (Changer c) (request.Host (host.ExchangeMedium t s f d inv1 inv2)) bytes
+    (subst (λ (o : Option HostChanger). IsFree (changer_stepped o c (request.Host (host.ExchangeMedium t s f d inv1 inv2)) bytes)) (sym is) refl)
+exchange_fails (Some h) c t s f d true inv2 bytes is =
+    ap (λ (x : DeviceView × Outcome). is_failure x.1.sense) (inverted_exchange c h t s f d true inv2 bytes is refl)
+exchange_fails (Some h) c t s f d false true bytes is =
+    ap (λ (x : DeviceView × Outcome). is_failure x.1.sense) (inverted_exchange c h t s f d false true bytes is refl)
+exchange_fails (Some h) c t s f d false false bytes is =
+    ap (λ (x : DeviceView × Outcome). is_failure x.1.sense) (exchange_performed c h t s f d bytes is)
+    ∙ exchanged_fails c h t s f d (exchange_refusal c.elements t s f d) refl
+
+command_fails : (c : ChangerView) (command : HostRequest) (bytes : List ℕ) → is_failure (performed (Changer c) (request.Host command) bytes).1.sense
+    ≡ is_for_drives c (request.Host command)
+command_fails c (host.ExchangeMedium t s f d inv1 inv2) bytes = exchange_fails c.hosts c t s f d inv1 inv2 bytes refl
+command_fails c command bytes = other_fails c (request.Host command) bytes refl
 
 pub changers_fail_for_drives : ChangersFailForDrives
 changers_fail_for_drives c (request.MoveMedium t s d true) bytes =
     ap (λ (x : DeviceView × Outcome). is_failure x.1.sense) (inverted_performed (Changer c) t s d bytes)
 changers_fail_for_drives c (request.MoveMedium t s d false) bytes =
     ap (λ (x : DeviceView × Outcome). is_failure x.1.sense) (move_performed (Changer c) t s d bytes) ∙ stepped_fails c.hosts c t s d bytes
+changers_fail_for_drives c (request.Host command) bytes = command_fails c command bytes
 changers_fail_for_drives c r bytes = other_fails c r bytes refl

@@ -192,6 +192,7 @@ command_free k (host.ModeSense10 dbd pc page subpage l) bytes = mode_sense_free 
 command_free k (host.ReportSupportedOperationCodes rctd options code action l) bytes = codes_free k rctd (options_at options) code action
 command_free k (host.ReportSupportedTaskManagementFunctions repd l) bytes = refl
 command_free k (host.PositionToElement transport destination invert) bytes = invalid_free invert
+command_free k (host.ExchangeMedium transport source first second inv1 inv2) bytes = invalid_free (inv1 || inv2)
 command_free k (host.InitializeElementStatusWithRange fast range start count) bytes = refl
 
 host_free : (k : Kind) (r : Request) (bytes : List ℕ) → fault_fails (host_field_fault k r bytes) ≡ false

@@ -7,6 +7,7 @@ pub mod InAndOut
 pub mod MarkLemmas
 pub mod TapeLemmas
 pub mod PlaceLemmas
+pub mod ExchangeLemmas
 pub mod MoveLemmas
 pub mod FailureLemmas
 pub mod SettledLemmas

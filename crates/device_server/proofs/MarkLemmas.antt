@@ -28,9 +28,10 @@ use Rattle.device_server.specs.HostChanger.{ChangerView}
 use Rattle.device_server.specs.HostDrive.{mode_of, host_selects, host_loads, not_ready, host_in_volume, host_in_bay, host_log_selects, host_command_step, host_drive_step}
 use Rattle.device_server.specs.View.{DeviceView, Drive, Changer, field_fault, drive_stepped, stepped}
 use Rattle.device_server.specs.Ends.{IsSameDevice}
-use Rattle.device_server.specs.Marks.{marks, KeepsMarks, GivesVolume, GetsVolume, SetsMark, CommandsKeepMarks, ResetsKeepMarks, JourneysKeepMarks, DrivesGive, DrivesGet, ChangersGive, ChangersGet, MarksOne, EachIsMarked}
+use Rattle.device_server.specs.Marks.{marks, KeepsMarks, GivesVolume, GetsVolume, SetsMark, CommandsKeepMarks, ResetsKeepMarks, JourneysKeepMarks, ExchangesKeepMarks, DrivesGive, DrivesGet, ChangersGive, ChangersGet, MarksOne, EachIsMarked}
 use Rattle.device_server.proofs.InAndOut.{drive_taken, drive_put, changer_taken, changer_put, marked_one, marks_at}
-use Rattle.device_server.proofs.SameDevice.{same_device, holding_drives, stepped_drives, performed_same, reset_same, journey_same}
+use Rattle.device_server.proofs.SameDevice.{same_device, stepped_drives, performed_same, reset_same, journey_same, exchange_same}
+use Rattle.device_server.proofs.PlaceLemmas.{holding_drives}
 
 -- COMMANDS
 
@@ -117,6 +118,10 @@ resets_keep_marks (Changer c) = record { device = reset_same (Changer c); marks 
 pub journeys_keep_marks : JourneysKeepMarks
 journeys_keep_marks (Drive d) source destination = record { device = journey_same (Drive d) source destination; marks = refl }
 journeys_keep_marks (Changer c) source destination = record { device = journey_same (Changer c) source destination; marks = refl }
+
+pub exchanges_keep_marks : ExchangesKeepMarks
+exchanges_keep_marks (Drive d) source first second = record { device = exchange_same (Drive d) source first second; marks = refl }
+exchanges_keep_marks (Changer c) source first second = record { device = exchange_same (Changer c) source first second; marks = refl }
 
 -- VOLUMES IN AND OUT
 

@@ -1,6 +1,8 @@
 -- A changer through each of its commands, and a move of one volume.
 use Rattle.std.proofs.Common.{◌≡◌, ℕ, Bool, true, false, List, inl, inr, Option, Some, None, Result, Ok, Err, unwrap_or, refl, sym, ap, ◌∙◌, subst}
 use Rattle.std.specs.Prelude.{cond, ◌≢◌}
+use Rattle.scsi_cdb.specs.declared.host_request.HostRequest.{HostRequest}
+use Rattle.scsi_cdb.specs.declared.host_request.HostRequest.TheVariants as host
 use Rattle.scsi_cdb.specs.declared.request.Request.{Request}
 use Rattle.scsi_cdb.specs.declared.request.Request.TheVariants as request
 use Rattle.scsi_sense.specs.declared.condition.Condition.{Condition}
@@ -12,17 +14,19 @@ use Rattle.tape_medium.specs.Elements.{Elements, Element, Transport, DataTransfe
 use Rattle.tape_medium.specs.Elements as elements
 use Rattle.tape_medium.proofs.VolumeLemmas.{keeps_all}
 use Rattle.tape_medium.proofs.ElementLemmas.{element_at-holding, held_in-holding}
+use Rattle.element_map.specs.Exchange.{exchange_refusal, exchanges}
 use Rattle.device_server.specs.declared.host_changer.HostChanger.{HostChanger}
 use Rattle.device_server.specs.declared.host_drive.HostDrive.{HostDrive}
 use Rattle.device_server.specs.declared.outcome.Outcome.{Outcome}
 use Rattle.device_server.specs.Outcomes.{refused}
 use Rattle.device_server.specs.Drive.{DriveView, on_tape, in_volume, in_bay}
 use Rattle.device_server.specs.Changer.{moved_alone, carried, changer_step}
-use Rattle.device_server.specs.HostChanger.{ChangerView, spec_changer, host_moved_alone, host_carried, host_changer_step}
+use Rattle.device_server.specs.HostChanger.{ChangerView, spec_changer, sources_exchanged, host_moved_alone, host_carried, host_exchanged_alone, host_exchanged, changer_command_step, host_changer_step}
 use Rattle.device_server.specs.HostDrive.{not_ready, host_in_volume, host_in_bay}
 use Rattle.device_server.specs.View.{DeviceView, Drive, Changer, field_fault, drive_stepped, changer_stepped, stepped}
-use Rattle.device_server.specs.Volumes.{Carries, is_move, MovesNothing, ChangersStay, MovesCarryOne}
+use Rattle.device_server.specs.Volumes.{Carries, Exchanges, is_move, MovesNothing, ChangersStay, MovesCarryOne, ExchangesCarryTwo}
 use Rattle.device_server.proofs.FieldLemmas.{move_performed, inverted_performed}
+use Rattle.device_server.proofs.ExchangeLemmas.{Crosses, crosses}
 use Rattle.device_server.proofs.PlaceLemmas.{IsSet, sets}
 use Rattle.device_server.proofs.SameDevice.{host_carried_elements}
 
@@ -61,10 +65,30 @@ unfolding HostStays
 host_carried_stays c h r source destination (Some fault) move nothing = refl
 host_carried_stays c h r source destination None move nothing = host_moved_stays c h r source destination (elements.moves c.elements source destination) move nothing
 
+host_exchanged_stays : (c : ChangerView) (h : HostChanger) (r : Request) (source first second : ℕ) (result : Result Elements MapFault) → is_move r ≡ true
+    → HostStays c r (host_exchanged_alone c h source first second result)
+unfolding HostStays
+host_exchanged_stays c h r source first second (Ok after) move nothing = elim nothing [ inl none ↦ absurd cc | inr failed ↦ absurd (failed refl) ]
+host_exchanged_stays c h r source first second (Err fault) move nothing = refl
+
+host_exchange_stays : (c : ChangerView) (h : HostChanger) (r : Request) (source first second : ℕ) (o : Option MapFault) → is_move r ≡ true
+    → HostStays c r (host_exchanged c h source first second o)
+unfolding HostStays
+host_exchange_stays c h r source first second (Some fault) move nothing = refl
+host_exchange_stays c h r source first second None move nothing = host_exchanged_stays c h r source first second (exchanges c.elements source first second) move nothing
+
+command_stays : (c : ChangerView) (h : HostChanger) (command : HostRequest) (bytes : List ℕ) → HostStays c (request.Host command) (changer_command_step c h command bytes)
+unfolding HostStays
+command_stays c h (host.ExchangeMedium transport source first second inv1 inv2) bytes =
+    host_exchange_stays c h (request.Host (host.ExchangeMedium transport source first second inv1 inv2)) source first second
+    (exchange_refusal c.elements transport source first second) refl
+command_stays c h command bytes = λ nothing. refl
+
 host_changer_stays : (c : ChangerView) (h : HostChanger) (r : Request) (bytes : List ℕ) → HostStays c r (host_changer_step c h r bytes)
 unfolding HostStays
 host_changer_stays c h (request.MoveMedium transport source destination invert) bytes =
     host_carried_stays c h (request.MoveMedium transport source destination invert) source destination (move_refusal c.elements transport source destination) refl
+host_changer_stays c h (request.Host command) bytes = command_stays c h command bytes
 host_changer_stays c h r bytes = λ nothing. refl
 
 stepped_stays : (c : ChangerView) (o : Option HostChanger) (r : Request) (bytes : List ℕ) → HostStays c r (changer_stepped o c r bytes)
@@ -201,3 +225,67 @@ moves_carry_one d transport source destination true bytes =
     subst (CarriesIf d source destination) (sym (inverted_performed d transport source destination bytes)) (refused_carry d source destination)
 moves_carry_one d transport source destination false bytes =
     subst (CarriesIf d source destination) (sym (move_performed d transport source destination bytes)) (stepped_carry d transport source destination bytes)
+
+-- AN EXCHANGE
+
+bay_has_none : (d : DriveView) (o : Option Volume) (transport source first second : ℕ) (inv1 inv2 : Bool) (bytes : List ℕ)
+    → (in_bay d o (request.Host (host.ExchangeMedium transport source first second inv1 inv2)) bytes).1.status ≢ Good
+bay_has_none d None transport source first second inv1 inv2 bytes good = cc
+bay_has_none d (Some v) transport source first second inv1 inv2 bytes good = ready_fails d v d.loaded good
+
+-- a changer with these elements, whatever it keeps besides
+exchanges_besides : (c after : ChangerView) (source first second : ℕ) → Crosses c.elements after.elements source first second
+    → Exchanges (Changer c) (Changer after) source first second
+exchanges_besides c after source first second x = record {
+  one = x.one;
+  other = x.other;
+  apart = (x.not_source, x.not_first);
+  full = x.full;
+  first_full = x.first_full;
+  empty = x.empty;
+  left = x.left;
+  first_there = x.first_there;
+  there = x.there;
+  others = x.others;
+  all = x.all;
+}
+
+exchanged_alone_carries : (c : ChangerView) (h : HostChanger) (source first second : ℕ) (r : Result Elements MapFault) → exchanges c.elements source first second ≡ r
+    → (host_exchanged_alone c h source first second r).1.status ≡ Good → Exchanges (Changer c) (Changer (host_exchanged_alone c h source first second r).0) source first second
+exchanged_alone_carries c h source first second (Err fault) is good = absurd (check_fails good)
+exchanged_alone_carries c h source first second (Ok after) is good =
+    exchanges_besides c (record { elements = after; hosts = Some (sources_exchanged h source first second) }) source first second (crosses c.elements after source first second is)
+
+exchanged_carries : (c : ChangerView) (h : HostChanger) (source first second : ℕ) (o : Option MapFault)
+    → (host_exchanged c h source first second o).1.status ≡ Good → Exchanges (Changer c) (Changer (host_exchanged c h source first second o).0) source first second
+exchanged_carries c h source first second (Some fault) good = absurd (check_fails good)
+exchanged_carries c h source first second None good = exchanged_alone_carries c h source first second (exchanges c.elements source first second) refl good
+
+stepped_exchanges : (c : ChangerView) (o : Option HostChanger) (transport source first second : ℕ) (inv1 inv2 : Bool) (bytes : List ℕ)
+    → (changer_stepped o c (request.Host (host.ExchangeMedium transport source first second inv1 inv2)) bytes).1.status ≡ Good
+    → Exchanges (Changer c) (Changer (changer_stepped o c (request.Host (host.ExchangeMedium transport source first second inv1 inv2)) bytes).0) source first second
+stepped_exchanges c None transport source first second inv1 inv2 bytes good = absurd (check_fails good)
+stepped_exchanges c (Some h) transport source first second inv1 inv2 bytes good =
+    exchanged_carries c h source first second (exchange_refusal c.elements transport source first second) good
+
+-- a drive has no EXCHANGE MEDIUM
+drive_has_none : (d : DriveView) (o : Option HostDrive) (transport source first second : ℕ) (inv1 inv2 : Bool) (bytes : List ℕ)
+    → (drive_stepped o d (request.Host (host.ExchangeMedium transport source first second inv1 inv2)) bytes).1.status ≢ Good
+drive_has_none d None transport source first second inv1 inv2 bytes good = bay_has_none d d.bay transport source first second inv1 inv2 bytes good
+drive_has_none d (Some h) transport source first second inv1 inv2 bytes good = check_fails good
+
+abbrev ExchangesIf : DeviceView → (source first second : ℕ) → DeviceView × Outcome → Type 0
+ExchangesIf d source first second x = x.1.status ≡ Good → Exchanges d x.0 source first second
+
+stepped_exchange : (d : DeviceView) (transport source first second : ℕ) (inv1 inv2 : Bool) (bytes : List ℕ)
+    → ExchangesIf d source first second (stepped d (request.Host (host.ExchangeMedium transport source first second inv1 inv2)) bytes)
+stepped_exchange (Drive d) transport source first second inv1 inv2 bytes good = absurd (drive_has_none d d.hosts transport source first second inv1 inv2 bytes good)
+stepped_exchange (Changer c) transport source first second inv1 inv2 bytes good = stepped_exchanges c c.hosts transport source first second inv1 inv2 bytes good
+
+pub exchanges_carry_two : ExchangesCarryTwo
+exchanges_carry_two d transport source first second inv1 inv2 bytes =
+    let r : Request = request.Host (host.ExchangeMedium transport source first second inv1 inv2) in
+    elim (field_fault d r bytes) as (λ (o : Option Condition). let step : DeviceView × Outcome = elim o [ Some condition ↦ (d, refused condition) | None ↦ stepped d r bytes ] in ExchangesIf d source first second step) [
+      | Some condition ↦ λ good. absurd (check_fails good)
+      | None ↦ stepped_exchange d transport source first second inv1 inv2 bytes
+    ]

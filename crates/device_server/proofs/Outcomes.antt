@@ -29,6 +29,7 @@ use Rattle.tape_medium.specs.declared.item.Item.TheVariants as item
 use Rattle.tape_medium.specs.declared.space.Stop.{Stop}
 use Rattle.tape_medium.specs.declared.space.Stop.TheVariants.{Done, AtMark, AtEnd, AtStart}
 use Rattle.tape_medium.specs.declared.volume.Volume.{Volume}
+use Rattle.element_map.specs.Exchange.{exchange_refusal, exchanges}
 use Rattle.element_sources.specs.HostStatus.{host_status}
 use Rattle.mode_pages.specs.ChangerData.{changer_answer}
 use Rattle.mode_pages.specs.DriveData.{drive_answer}
@@ -51,7 +52,7 @@ use Rattle.device_server.specs.Drive.{DriveView, read_of, reads, run, bytes_of_o
 use Rattle.device_server.specs.Mode.{block_length_after}
 use Rattle.device_server.specs.Changer.{changer_mode_data, moved_alone, carried, changer_step}
 use Rattle.device_server.specs.Hosts.{mode_sense, log_sense, log_select, codes_answer}
-use Rattle.device_server.specs.HostChanger.{ChangerView, host_moved_alone, host_carried, status_asked, addresses_of, can_hold, changer_log_selected, changer_command_answer, host_changer_step}
+use Rattle.device_server.specs.HostChanger.{ChangerView, host_moved_alone, host_carried, status_asked, addresses_of, can_hold, changer_log_selected, host_exchanged_alone, host_exchanged, changer_command_step, host_changer_step}
 use Rattle.device_server.specs.HostDrive.{mode_of, mode_state, is_other_mode, host_selects, host_loads, not_ready, host_in_volume, host_in_bay, drive_log, host_log_selects, host_command_step, host_drive_step}
 use Rattle.device_server.specs.View.{DeviceView, Drive, Changer, profile_by, profile_of, field_fault, drive_stepped, changer_stepped, stepped, performed}
 use Rattle.device_server.specs.Ends.{IsEnded, told_by, IsOwn}
@@ -262,6 +263,7 @@ host_command_own d h (host.ReportSupportedOperationCodes rctd options code actio
     own Hosts _ _ (answers_is l (codes_answer drive_kind rctd (options_at options) code action))
 host_command_own d h (host.ReportSupportedTaskManagementFunctions repd l) bytes = own Hosts _ _ (done_is (take l (task_management repd)))
 host_command_own d h (host.PositionToElement transport destination invert) bytes = own Hosts _ _ (refused_is InvalidCommandOperationCode)
+host_command_own d h (host.ExchangeMedium transport source first second inv1 inv2) bytes = own Hosts _ _ (refused_is InvalidCommandOperationCode)
 host_command_own d h (host.InitializeElementStatusWithRange fast range start count) bytes = own Hosts _ _ (refused_is InvalidCommandOperationCode)
 
 host_drive_own : (d : DriveView) (h : HostDrive) (r : Request) (bytes : List ℕ) → IsOwn Hosts r (host_drive_step d h r bytes).1
@@ -288,21 +290,31 @@ changer_log_own : (r : Request) → told_by Hosts (class_of r) ≡ Some LogParam
 changer_log_own r is (Ok change) = tells_own Hosts r (is_reset change) LogParametersChanged is
 changer_log_own r is (Err condition) = own Hosts r (refused condition) (refused_is condition)
 
-changer_command_own : (e : Elements) (command : HostRequest) (bytes : List ℕ) → IsOwn Hosts (request.Host command) (changer_command_answer e command bytes)
-changer_command_own e (host.SendDiagnostic code test l) bytes = own Hosts _ (done []) (done_is [])
-changer_command_own e (host.LogSelect pcr sp pc page subpage l) bytes =
+host_exchanged_is : (c : ChangerView) (h : HostChanger) (source first second : ℕ) (r : Result Elements MapFault) → Steps (host_exchanged_alone c h source first second r)
+host_exchanged_is c h source first second (Ok after) = done_is []
+host_exchanged_is c h source first second (Err fault) = refused_is InternalTargetFailure
+
+host_exchange_is : (c : ChangerView) (h : HostChanger) (source first second : ℕ) (o : Option MapFault) → Steps (host_exchanged c h source first second o)
+host_exchange_is c h source first second (Some fault) = refused_is _
+host_exchange_is c h source first second None = host_exchanged_is c h source first second (exchanges c.elements source first second)
+
+changer_command_own : (c : ChangerView) (h : HostChanger) (command : HostRequest) (bytes : List ℕ) → IsOwn Hosts (request.Host command) (changer_command_step c h command bytes).1
+changer_command_own c h (host.SendDiagnostic code test l) bytes = own Hosts _ (done []) (done_is [])
+changer_command_own c h (host.LogSelect pcr sp pc page subpage l) bytes =
     changer_log_own (request.Host (host.LogSelect pcr sp pc page subpage l)) refl (log.selected changer_kind (log_select pcr sp page subpage l) (length bytes))
-changer_command_own e (host.LogSense ppc sp pc page subpage pointer l) bytes =
+changer_command_own c h (host.LogSense ppc sp pc page subpage pointer l) bytes =
     own Hosts _ _ (answers_is l (changer_log_data (log_sense ppc sp page subpage pointer)))
-changer_command_own e (host.ModeSelect10 sp l) bytes = own Hosts _ _ (refused_is InvalidCommandOperationCode)
-changer_command_own e (host.ModeSense10 dbd pc page subpage l) bytes =
-    own Hosts _ _ (answers_is l (changer_answer (mode_sense Ten dbd pc page subpage) (addresses_of e)))
-changer_command_own e (host.ReportSupportedOperationCodes rctd options code action l) bytes =
+changer_command_own c h (host.ModeSelect10 sp l) bytes = own Hosts _ _ (refused_is InvalidCommandOperationCode)
+changer_command_own c h (host.ModeSense10 dbd pc page subpage l) bytes =
+    own Hosts _ _ (answers_is l (changer_answer (mode_sense Ten dbd pc page subpage) (addresses_of c.elements)))
+changer_command_own c h (host.ReportSupportedOperationCodes rctd options code action l) bytes =
     own Hosts _ _ (answers_is l (codes_answer changer_kind rctd (options_at options) code action))
-changer_command_own e (host.ReportSupportedTaskManagementFunctions repd l) bytes = own Hosts _ _ (done_is (take l (task_management repd)))
-changer_command_own e (host.PositionToElement transport destination invert) bytes =
-    own Hosts _ _ (either (transport == 0 && can_hold e destination) (done []) (refused InvalidElementAddress) (done_is []) (refused_is InvalidElementAddress))
-changer_command_own e (host.InitializeElementStatusWithRange fast range start count) bytes = own Hosts _ _ (done_is [])
+changer_command_own c h (host.ReportSupportedTaskManagementFunctions repd l) bytes = own Hosts _ _ (done_is (take l (task_management repd)))
+changer_command_own c h (host.PositionToElement transport destination invert) bytes =
+    own Hosts _ _ (either (transport == 0 && can_hold c.elements destination) (done []) (refused InvalidElementAddress) (done_is []) (refused_is InvalidElementAddress))
+changer_command_own c h (host.InitializeElementStatusWithRange fast range start count) bytes = own Hosts _ _ (done_is [])
+changer_command_own c h (host.ExchangeMedium transport source first second inv1 inv2) bytes =
+    own Hosts _ _ (host_exchange_is c h source first second (exchange_refusal c.elements transport source first second))
 
 host_changer_own : (c : ChangerView) (h : HostChanger) (r : Request) (bytes : List ℕ) → IsOwn Hosts r (host_changer_step c h r bytes).1
 host_changer_own c h request.TestUnitReady bytes = own Hosts request.TestUnitReady _ (done_is [])
@@ -314,7 +326,7 @@ host_changer_own c h (request.MoveMedium transport source destination invert) by
 host_changer_own c h (request.ReadElementStatus voltag type_code start count curdata dvcid l) bytes =
     own Hosts (request.ReadElementStatus voltag type_code start count curdata dvcid l) _
     (done_is (take l (host_status c.elements h.sources h.identity.library_number (status_asked voltag type_code start count dvcid))))
-host_changer_own c h (request.Host command) bytes = changer_command_own c.elements command bytes
+host_changer_own c h (request.Host command) bytes = changer_command_own c h command bytes
 host_changer_own c h r bytes = own Hosts r (refused InvalidCommandOperationCode) (refused_is InvalidCommandOperationCode)
 
 -- BY THE PROFILE

@@ -8,7 +8,7 @@ use Rattle.tape_medium.specs.Elements.{Elements, Element, Transport, DataTransfe
 use Rattle.tape_medium.proofs.ElementLemmas.{element_at-holding, IsWithin, element_at-within}
 use Rattle.device_server.specs.Drive.{rewound}
 use Rattle.device_server.specs.View.{DeviceView, Drive, Changer}
-use Rattle.device_server.specs.Volumes.{volume_at, SameVolume, SameAt, GoesOut, GoesIn, TakesOne, PutsOne, MarksMoveNothing, JourneysMoveNothing}
+use Rattle.device_server.specs.Volumes.{volume_at, SameVolume, SameAt, GoesOut, GoesIn, TakesOne, PutsOne, MarksMoveNothing, JourneysMoveNothing, ExchangesThatAreNotedMoveNothing}
 use Rattle.device_server.proofs.InAndOut.{drive_taken, drive_put, changer_taken, changer_put, marked_one}
 use Rattle.device_server.proofs.TapeLemmas.{same_volume, rewound_same}
 
@@ -62,6 +62,29 @@ set_others e (Storage i) (ImportExport j) a b held at_a at_b ne = refl
 set_others e (Storage i) (Storage j) a b held at_a at_b ne = let apart : j ≢ i = omega arith in ap Some (get_or-set_other e.storage i j held None apart)
 set_others e (Storage i) Nowhere a b held at_a at_b ne = refl
 
+-- and what is noted of the drives stays
+pub holding_drives : (e : Elements) (at : Element) (held : Option Volume) → (holding e at held).data_transfer ≡ e.data_transfer
+holding_drives e Transport held = refl
+holding_drives e (DataTransfer i) held = refl
+holding_drives e (ImportExport i) held = refl
+holding_drives e (Storage i) held = refl
+holding_drives e Nowhere held = refl
+
+-- what the element with an address holds, where one element is set
+abbrev pub held_at : Elements → (place : ℕ) → Option (Option Volume)
+held_at e place = held_in e (element_at e place)
+
+pub held_here : (e : Elements) (place : ℕ) (old held : Option Volume) → held_at e place ≡ Some old → held_at (holding e (element_at e place) held) place ≡ Some held
+held_here e place old held h =
+    let at = element_at e place in
+    ap (held_in (holding e at held)) (element_at-holding e at held place) ∙ set_here e at old held (element_at-within e place) h
+
+pub held_others : (e : Elements) (place other : ℕ) (held : Option Volume) → other ≢ place → held_at (holding e (element_at e place) held) other ≡ held_at e other
+held_others e place other held ne =
+    let at = element_at e place in
+    ap (held_in (holding e at held)) (element_at-holding e at held other)
+    ∙ set_others e at (element_at e other) place other held (element_named e place) (element_named e other) ne
+
 -- the same of the places of a changer
 abbrev pub volume_in : Elements → (place : ℕ) → Option Volume
 volume_in e place = unwrap_or (held_in e (element_at e place)) None
@@ -72,13 +95,9 @@ pub record IsSet (before after : Elements) (place : ℕ) (held : Option Volume) 
 
 pub sets : (e : Elements) (place : ℕ) (old held : Option Volume) → held_in e (element_at e place) ≡ Some old → IsSet e (holding e (element_at e place) held) place held
 sets e place old held h =
-    let at = element_at e place in
-    let after = holding e at held in
     record {
-      here = ap (λ x. unwrap_or (held_in after x) None) (element_at-holding e at held place)
-          ∙ ap (λ x. unwrap_or x None) (set_here e at old held (element_at-within e place) h);
-      others = λ other ne. ap (λ x. unwrap_or (held_in after x) None) (element_at-holding e at held other)
-          ∙ ap (λ x. unwrap_or x None) (set_others e at (element_at e other) place other held (element_named e place) (element_named e other) ne);
+      here = ap (λ (x : Option (Option Volume)). unwrap_or x None) (held_here e place old held h);
+      others = λ other ne. ap (λ (x : Option (Option Volume)). unwrap_or x None) (held_others e place other held ne);
     }
 
 -- VOLUMES IN AND OUT
@@ -134,6 +153,11 @@ note_holds e tags (ImportExport i) = refl
 note_holds e tags (Storage i) = refl
 note_holds e tags Nowhere = refl
 
+pub held_noted : (e : Elements) (i : ℕ) (tag : Option VolumeTag) (place : ℕ) → held_at (record e { data_transfer = set e.data_transfer i tag }) place ≡ held_at e place
+held_noted e i tag place =
+    let noted : Elements = record e { data_transfer = set e.data_transfer i tag } in
+    ap (held_in noted) (note_names e i tag place) ∙ note_holds e noted.data_transfer (element_at e place)
+
 pub marks_move_nothing : MarksMoveNothing
 marks_move_nothing (Drive d) after place tag h other = absurd cc
 marks_move_nothing (Changer c) after place tag h other =
@@ -146,3 +170,7 @@ marks_move_nothing (Changer c) after place tag h other =
 pub journeys_move_nothing : JourneysMoveNothing
 journeys_move_nothing (Drive d) source destination other = refl
 journeys_move_nothing (Changer c) source destination other = refl
+
+pub exchanges_that_are_noted_move_nothing : ExchangesThatAreNotedMoveNothing
+exchanges_that_are_noted_move_nothing (Drive d) source first second other = refl
+exchanges_that_are_noted_move_nothing (Changer c) source first second other = refl

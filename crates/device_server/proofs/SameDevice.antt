@@ -16,6 +16,7 @@ use Rattle.tape_medium.specs.Limits.{block_limit}
 use Rattle.tape_medium.specs.declared.volume.Volume.{Volume}
 use Rattle.tape_medium.specs.declared.elements.MapFault.{MapFault}
 use Rattle.tape_medium.specs.Elements.{Elements, Element, Transport, DataTransfer, ImportExport, Storage, Nowhere, element_at, held_in, holding, moved, move_refusal, moves}
+use Rattle.element_map.specs.Exchange.{exchange_refusal, exchanges}
 use Rattle.inquiry_data.specs.declared.unit_identity.UnitIdentity.{UnitIdentity}
 use Rattle.mode_pages.specs.Select as mode
 use Rattle.mode_pages.specs.declared.request.HeaderForm.TheVariants.{Six, Ten}
@@ -29,10 +30,12 @@ use Rattle.device_server.specs.Outcomes.{refused}
 use Rattle.device_server.specs.Changer.{moved_alone, carried, changer_step}
 use Rattle.device_server.specs.Drive.{DriveView, on_tape, in_volume, in_bay, loads, drive_step}
 use Rattle.device_server.specs.Hosts.{log_select}
-use Rattle.device_server.specs.HostChanger.{ChangerView, sources_moved, host_moved_alone, host_carried, host_changer_step}
+use Rattle.device_server.specs.HostChanger.{ChangerView, sources_moved, sources_exchanged, host_moved_alone, host_carried, host_exchanged_alone, host_exchanged, changer_command_step, host_changer_step}
 use Rattle.device_server.specs.HostDrive.{mode_of, host_selects, host_loads, not_ready, host_in_volume, host_in_bay, host_log_selects, host_command_step, host_drive_step}
-use Rattle.device_server.specs.View.{DeviceView, Drive, Changer, kind_of, identity_of, profile_by, profile_of, commands_of, drives_of, journeyed, field_fault, drive_stepped, changer_stepped, stepped, performed, reset_of}
+use Rattle.device_server.specs.View.{DeviceView, Drive, Changer, kind_of, identity_of, profile_by, profile_of, commands_of, drives_of, journeyed, exchange_journeyed, field_fault, drive_stepped, changer_stepped, stepped, performed, reset_of}
 use Rattle.device_server.specs.Ends.{IsSameDevice}
+use Rattle.device_server.proofs.ExchangeLemmas.{exchanged_drives}
+use Rattle.device_server.proofs.PlaceLemmas.{holding_drives}
 
 -- THE PROFILE is known from the identity
 
@@ -109,6 +112,7 @@ host_command_stays d h (host.ModeSense10 dbd pc page subpage l) bytes is = refl
 host_command_stays d h (host.ReportSupportedOperationCodes rctd options code action l) bytes is = refl
 host_command_stays d h (host.ReportSupportedTaskManagementFunctions repd l) bytes is = refl
 host_command_stays d h (host.PositionToElement transport destination invert) bytes is = refl
+host_command_stays d h (host.ExchangeMedium transport source first second inv1 inv2) bytes is = refl
 host_command_stays d h (host.InitializeElementStatusWithRange fast range start count) bytes is = refl
 
 host_drive_stays : (d : DriveView) (h : HostDrive) (r : Request) (bytes : List ℕ) → d.hosts ≡ Some h → Stays d (host_drive_step d h r bytes)
@@ -128,13 +132,6 @@ reset_hosts None = refl
 reset_hosts (Some h) = refl
 
 -- A CHANGER keeps the number of its elements, and its marks
-
-pub holding_drives : (e : Elements) (at : Element) (held : Option Volume) → (holding e at held).data_transfer ≡ e.data_transfer
-holding_drives e Transport held = refl
-holding_drives e (DataTransfer i) held = refl
-holding_drives e (ImportExport i) held = refl
-holding_drives e (Storage i) held = refl
-holding_drives e Nowhere held = refl
 
 moved_drives : (e : Elements) (from : Element) (held : Option (Option Volume)) (to : Element) (there : Option (Option Volume))
     → (moved_alone e (moved e from held to there)).0.data_transfer ≡ e.data_transfer
@@ -168,22 +165,35 @@ pub host_carried_elements : (c : ChangerView) (h : HostChanger) (source destinat
 host_carried_elements c h source destination (Some fault) = refl
 host_carried_elements c h source destination None = host_moved_elements c h source destination (moves c.elements source destination)
 
-pub host_changer_elements : (c : ChangerView) (h : HostChanger) (r : Request) (bytes : List ℕ) → (host_changer_step c h r bytes).0.elements ≡ (changer_step c.elements r).0
-host_changer_elements c h (request.MoveMedium transport source destination invert) bytes =
-    host_carried_elements c h source destination (move_refusal c.elements transport source destination)
-host_changer_elements c h (request.Host command) bytes = refl
-host_changer_elements c h request.TestUnitReady bytes = refl
-host_changer_elements c h request.InitializeElementStatus bytes = refl
-host_changer_elements c h (request.ModeSense dbd pc page subpage l) bytes = refl
-host_changer_elements c h (request.ReadElementStatus voltag type_code start count curdata dvcid l) bytes = refl
-host_changer_elements c h r bytes = refl
+host_exchanged_drives : (c : ChangerView) (h : HostChanger) (source first second : ℕ) (after : Result Elements MapFault) → exchanges c.elements source first second ≡ after
+    → (host_exchanged_alone c h source first second after).0.elements.data_transfer ≡ c.elements.data_transfer
+host_exchanged_drives c h source first second (Ok after) is = exchanged_drives c.elements after source first second is
+host_exchanged_drives c h source first second (Err fault) is = refl
 
-pub stepped_elements : (c : ChangerView) (o : Option HostChanger) (r : Request) (bytes : List ℕ) → (changer_stepped o c r bytes).0.elements ≡ (changer_step c.elements r).0
-stepped_elements c None r bytes = refl
-stepped_elements c (Some h) r bytes = host_changer_elements c h r bytes
+host_exchange_drives : (c : ChangerView) (h : HostChanger) (source first second : ℕ) (o : Option MapFault)
+    → (host_exchanged c h source first second o).0.elements.data_transfer ≡ c.elements.data_transfer
+host_exchange_drives c h source first second (Some fault) = refl
+host_exchange_drives c h source first second None = host_exchanged_drives c h source first second (exchanges c.elements source first second) refl
+
+command_drives : (c : ChangerView) (h : HostChanger) (command : HostRequest) (bytes : List ℕ)
+    → (changer_command_step c h command bytes).0.elements.data_transfer ≡ c.elements.data_transfer
+command_drives c h (host.ExchangeMedium transport source first second inv1 inv2) bytes =
+    host_exchange_drives c h source first second (exchange_refusal c.elements transport source first second)
+command_drives c h command bytes = refl
+
+host_changer_drives : (c : ChangerView) (h : HostChanger) (r : Request) (bytes : List ℕ) → (host_changer_step c h r bytes).0.elements.data_transfer ≡ c.elements.data_transfer
+host_changer_drives c h (request.MoveMedium transport source destination invert) bytes =
+    ap (λ (e : Elements). e.data_transfer) (host_carried_elements c h source destination (move_refusal c.elements transport source destination))
+    ∙ carried_drives c.elements source destination (move_refusal c.elements transport source destination)
+host_changer_drives c h (request.Host command) bytes = command_drives c h command bytes
+host_changer_drives c h r bytes = refl
+
+changer_stepped_drives : (c : ChangerView) (o : Option HostChanger) (r : Request) (bytes : List ℕ) → (changer_stepped o c r bytes).0.elements.data_transfer ≡ c.elements.data_transfer
+changer_stepped_drives c None r bytes = changer_drives c.elements r
+changer_stepped_drives c (Some h) r bytes = host_changer_drives c h r bytes
 
 pub stepped_drives : (c : ChangerView) (r : Request) (bytes : List ℕ) → (changer_stepped c.hosts c r bytes).0.elements.data_transfer ≡ c.elements.data_transfer
-stepped_drives c r bytes = ap (λ (e : Elements). e.data_transfer) (stepped_elements c c.hosts r bytes) ∙ changer_drives c.elements r
+stepped_drives c r bytes = changer_stepped_drives c c.hosts r bytes
 
 -- and its identity
 abbrev changer_identity : Option HostChanger → Option UnitIdentity
@@ -199,10 +209,27 @@ host_carried_stays : (c : ChangerView) (h : HostChanger) (source destination : �
 host_carried_stays c h source destination (Some fault) is = refl
 host_carried_stays c h source destination None is = host_moved_stays c h source destination (moves c.elements source destination) is
 
+host_exchanged_stays : (c : ChangerView) (h : HostChanger) (source first second : ℕ) (after : Result Elements MapFault) → c.hosts ≡ Some h
+    → changer_identity (host_exchanged_alone c h source first second after).0.hosts ≡ changer_identity c.hosts
+host_exchanged_stays c h source first second (Ok after) is = sym (ap changer_identity is)
+host_exchanged_stays c h source first second (Err fault) is = refl
+
+host_exchange_stays : (c : ChangerView) (h : HostChanger) (source first second : ℕ) (o : Option MapFault) → c.hosts ≡ Some h
+    → changer_identity (host_exchanged c h source first second o).0.hosts ≡ changer_identity c.hosts
+host_exchange_stays c h source first second (Some fault) is = refl
+host_exchange_stays c h source first second None is = host_exchanged_stays c h source first second (exchanges c.elements source first second) is
+
+command_stays : (c : ChangerView) (h : HostChanger) (command : HostRequest) (bytes : List ℕ) → c.hosts ≡ Some h
+    → changer_identity (changer_command_step c h command bytes).0.hosts ≡ changer_identity c.hosts
+command_stays c h (host.ExchangeMedium transport source first second inv1 inv2) bytes is =
+    host_exchange_stays c h source first second (exchange_refusal c.elements transport source first second) is
+command_stays c h command bytes is = refl
+
 host_changer_stays : (c : ChangerView) (h : HostChanger) (r : Request) (bytes : List ℕ) → c.hosts ≡ Some h
     → changer_identity (host_changer_step c h r bytes).0.hosts ≡ changer_identity c.hosts
 host_changer_stays c h (request.MoveMedium transport source destination invert) bytes is =
     host_carried_stays c h source destination (move_refusal c.elements transport source destination) is
+host_changer_stays c h (request.Host command) bytes is = command_stays c h command bytes is
 host_changer_stays c h r bytes is = refl
 
 changer_stays : (c : ChangerView) (o : Option HostChanger) (r : Request) (bytes : List ℕ) → c.hosts ≡ o
@@ -237,3 +264,8 @@ reset_profile d = (reset_same d).profile
 pub journey_same : (d : DeviceView) (source destination : ℕ) → IsSameDevice d (journeyed d source destination)
 journey_same (Drive d) source destination = same_itself (Drive d)
 journey_same (Changer c) source destination = same_device (Changer c) _ refl (journey_stays c.hosts (λ (h : HostChanger). sources_moved h source destination) (λ h. refl)) refl
+
+pub exchange_same : (d : DeviceView) (source first second : ℕ) → IsSameDevice d (exchange_journeyed d source first second)
+exchange_same (Drive d) source first second = same_itself (Drive d)
+exchange_same (Changer c) source first second =
+    same_device (Changer c) _ refl (journey_stays c.hosts (λ (h : HostChanger). sources_exchanged h source first second) (λ h. refl)) refl

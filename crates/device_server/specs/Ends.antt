@@ -10,7 +10,7 @@ use Rattle.scsi_sense.specs.declared.status.Status.TheVariants.{Good, CheckCondi
 use Rattle.unit_attention.specs.declared.kind.Kind.{Kind}
 use Rattle.unit_attention.specs.declared.kind.Kind.TheVariants.{MediumChanged, ModeParametersChanged, LogParametersChanged}
 use Rattle.device_server.specs.declared.outcome.Outcome.{Outcome}
-use Rattle.device_server.specs.View.{DeviceView, kind_of, profile_of, identity_of, drives_of, journeyed, performed, reset_of}
+use Rattle.device_server.specs.View.{DeviceView, kind_of, profile_of, identity_of, drives_of, journeyed, exchange_journeyed, performed, reset_of}
 
 -- GOOD without sense data, or CHECK CONDITION with it
 abbrev pub IsEnded : Outcome → Type 0
@@ -63,3 +63,6 @@ StaysTheSameByReset = (device : DeviceView) → IsSameDevice device (reset_of de
 -- and a volume that was carried
 abbrev pub StaysTheSameByJourneys : Type 0
 StaysTheSameByJourneys = (device : DeviceView) (source destination : ℕ) → IsSameDevice device (journeyed device source destination)
+
+abbrev pub StaysTheSameByExchanges : Type 0
+StaysTheSameByExchanges = (device : DeviceView) (source first second : ℕ) → IsSameDevice device (exchange_journeyed device source first second)

@@ -3,7 +3,7 @@
 use Rattle.std.specs.Prelude.{ℕ, ◌==◌, Bool, ◌&&◌, List, [], length, take, Option, Some, None, is_some, Result, Ok, Err, if◌then◌else◌}
 use Rattle.std.specs.Option.{option_map}
 use Rattle.scsi_cdb.specs.declared.host_request.HostRequest.{HostRequest}
-use Rattle.scsi_cdb.specs.declared.host_request.HostRequest.TheVariants.{SendDiagnostic, LogSelect, LogSense, ModeSelect10, ModeSense10, ReportSupportedOperationCodes, ReportSupportedTaskManagementFunctions, PositionToElement, InitializeElementStatusWithRange}
+use Rattle.scsi_cdb.specs.declared.host_request.HostRequest.TheVariants.{SendDiagnostic, LogSelect, LogSense, ModeSelect10, ModeSense10, ReportSupportedOperationCodes, ReportSupportedTaskManagementFunctions, PositionToElement, InitializeElementStatusWithRange, ExchangeMedium}
 use Rattle.scsi_cdb.specs.declared.kind.Kind.TheVariants as kind
 use Rattle.scsi_cdb.specs.declared.request.Request.{Request}
 use Rattle.scsi_cdb.specs.declared.request.Request.TheVariants.{TestUnitReady, InitializeElementStatus, ModeSense, MoveMedium, ReadElementStatus, Host}
@@ -11,8 +11,9 @@ use Rattle.scsi_sense.specs.declared.condition.Condition.{Condition}
 use Rattle.scsi_sense.specs.declared.condition.Condition.TheVariants.{InternalTargetFailure, InvalidCommandOperationCode, InvalidElementAddress}
 use Rattle.tape_medium.specs.declared.elements.MapFault.{MapFault}
 use Rattle.tape_medium.specs.Elements.{Elements, element_at, tag_held, first_data_transfer, first_import_export, first_storage, moves, move_refusal}
+use Rattle.element_map.specs.Exchange.{exchange_refusal, exchanges}
 use Rattle.element_sources.specs.HostStatus.{host_status}
-use Rattle.element_sources.specs.Sources.{source_moved}
+use Rattle.element_sources.specs.Sources.{source_moved, source_exchanged}
 use Rattle.element_sources.specs.declared.status_request.StatusRequest.{StatusRequest}
 use Rattle.mode_pages.specs.ChangerData.{changer_answer}
 use Rattle.mode_pages.specs.declared.elements.ElementAddresses.{ElementAddresses}
@@ -48,6 +49,13 @@ sources_moved h source destination = record h { sources = source_moved h.sources
 abbrev pub journey_noted : ChangerView → (source destination : ℕ) → ChangerView
 journey_noted c source destination = record c { hosts = option_map (λ (h : HostChanger). sources_moved h source destination) c.hosts }
 
+-- two volumes were exchanged
+abbrev pub sources_exchanged : HostChanger → (source first second : ℕ) → HostChanger
+sources_exchanged h source first second = record h { sources = source_exchanged h.sources source first second }
+
+abbrev pub exchange_noted : ChangerView → (source first second : ℕ) → ChangerView
+exchange_noted c source first second = record c { hosts = option_map (λ (h : HostChanger). sources_exchanged h source first second) c.hosts }
+
 -- MOVE MEDIUM, as in the default profile; a volume that was moved has a source
 abbrev pub host_moved_alone : ChangerView → HostChanger → (source destination : ℕ) → Result Elements MapFault → ChangerView × Outcome
 host_moved_alone c h source destination (Ok after) = (record { elements = after; hosts = Some (sources_moved h source destination) }, done [])
@@ -56,6 +64,16 @@ host_moved_alone c h source destination (Err fault) = (c, refused InternalTarget
 abbrev pub host_carried : ChangerView → HostChanger → (source destination : ℕ) → Option MapFault → ChangerView × Outcome
 host_carried c h source destination (Some fault) = (c, refused (move_condition fault))
 host_carried c h source destination None = host_moved_alone c h source destination (moves c.elements source destination)
+
+-- EXCHANGE MEDIUM (SMC-3, "EXCHANGE MEDIUM command"): first what the map and the marks refuse. The changer exchanges volumes among its own
+-- elements; each has a source then. An exchange with a drive isn't one for the changer alone.
+abbrev pub host_exchanged_alone : ChangerView → HostChanger → (source first second : ℕ) → Result Elements MapFault → ChangerView × Outcome
+host_exchanged_alone c h source first second (Ok after) = (record { elements = after; hosts = Some (sources_exchanged h source first second) }, done [])
+host_exchanged_alone c h source first second (Err fault) = (c, refused InternalTargetFailure)
+
+abbrev pub host_exchanged : ChangerView → HostChanger → (source first second : ℕ) → Option MapFault → ChangerView × Outcome
+host_exchanged c h source first second (Some fault) = (c, refused (move_condition fault))
+host_exchanged c h source first second None = host_exchanged_alone c h source first second (exchanges c.elements source first second)
 
 -- READ ELEMENT STATUS by its fields
 abbrev pub status_asked : (volume_tags : Bool) → (element_type_code start count : ℕ) → (device_identifiers : Bool) → StatusRequest
@@ -90,21 +108,23 @@ can_hold e address = is_some (tag_held e (element_at e address))
 abbrev pub positioned : Elements → (transport destination : ℕ) → Outcome
 positioned e transport destination = if transport == 0 && can_hold e destination then done [] else refused InvalidElementAddress
 
--- THE COMMANDS that only the hosts' profile has, none of which changes a changer. It has no MODE SELECT.
-abbrev pub changer_command_answer : Elements → HostRequest → List ℕ → Outcome
-changer_command_answer e (SendDiagnostic code self_test list_length) bytes = done []
-changer_command_answer e (LogSelect pcr sp control page subpage list_length) bytes =
-    changer_log_selected (log.selected kind.Changer (log_select pcr sp page subpage list_length) (length bytes))
-changer_command_answer e (LogSense ppc sp control page subpage pointer allocation_length) bytes =
-    answers allocation_length (changer_log_data (log_sense ppc sp page subpage pointer))
-changer_command_answer e (ModeSelect10 sp list_length) bytes = refused InvalidCommandOperationCode
-changer_command_answer e (ModeSense10 dbd control page subpage allocation_length) bytes =
-    answers allocation_length (changer_answer (mode_sense Ten dbd control page subpage) (addresses_of e))
-changer_command_answer e (ReportSupportedOperationCodes rctd options code action allocation_length) bytes =
-    answers allocation_length (codes_answer kind.Changer rctd (options_at options) code action)
-changer_command_answer e (ReportSupportedTaskManagementFunctions repd allocation_length) bytes = done (take allocation_length (task_management repd))
-changer_command_answer e (PositionToElement transport destination invert) bytes = positioned e transport destination
-changer_command_answer e (InitializeElementStatusWithRange fast range start count) bytes = done []
+-- THE COMMANDS that only the hosts' profile has, of which EXCHANGE MEDIUM alone changes a changer. It has no MODE SELECT.
+abbrev pub changer_command_step : ChangerView → HostChanger → HostRequest → List ℕ → ChangerView × Outcome
+changer_command_step c h (SendDiagnostic code self_test list_length) bytes = (c, done [])
+changer_command_step c h (LogSelect pcr sp control page subpage list_length) bytes =
+    (c, changer_log_selected (log.selected kind.Changer (log_select pcr sp page subpage list_length) (length bytes)))
+changer_command_step c h (LogSense ppc sp control page subpage pointer allocation_length) bytes =
+    (c, answers allocation_length (changer_log_data (log_sense ppc sp page subpage pointer)))
+changer_command_step c h (ModeSelect10 sp list_length) bytes = (c, refused InvalidCommandOperationCode)
+changer_command_step c h (ModeSense10 dbd control page subpage allocation_length) bytes =
+    (c, answers allocation_length (changer_answer (mode_sense Ten dbd control page subpage) (addresses_of c.elements)))
+changer_command_step c h (ReportSupportedOperationCodes rctd options code action allocation_length) bytes =
+    (c, answers allocation_length (codes_answer kind.Changer rctd (options_at options) code action))
+changer_command_step c h (ReportSupportedTaskManagementFunctions repd allocation_length) bytes = (c, done (take allocation_length (task_management repd)))
+changer_command_step c h (PositionToElement transport destination invert) bytes = (c, positioned c.elements transport destination)
+changer_command_step c h (InitializeElementStatusWithRange fast range start count) bytes = (c, done [])
+changer_command_step c h (ExchangeMedium transport source first second inv1 inv2) bytes =
+    host_exchanged c h source first second (exchange_refusal c.elements transport source first second)
 
 -- THE STEP of a changer of the hosts' profile by a command whose fields aren't refused
 abbrev pub host_changer_step : ChangerView → HostChanger → Request → List ℕ → ChangerView × Outcome
@@ -116,5 +136,5 @@ host_changer_step c h (MoveMedium transport source destination invert) bytes =
     host_carried c h source destination (move_refusal c.elements transport source destination)
 host_changer_step c h (ReadElementStatus voltag type_code start count curdata dvcid allocation_length) bytes =
     (c, done (take allocation_length (host_status c.elements h.sources h.identity.library_number (status_asked voltag type_code start count dvcid))))
-host_changer_step c h (Host command) bytes = (c, changer_command_answer c.elements command bytes)
+host_changer_step c h (Host command) bytes = changer_command_step c h command bytes
 host_changer_step c h request bytes = (c, refused InvalidCommandOperationCode)

@@ -1,8 +1,9 @@
 -- Worked rows: what a host gets from a changer of the hosts' profile, byte by byte, and the changer after it. It has one data transfer and three
 -- storage elements.
 use Rattle.std.specs.Prelude.{◌≡◌, ℕ, true, false, [], ◌∷◌, ◌++◌, Option, Some, None}
-use Rattle.scsi_cdb.specs.declared.host_request.HostRequest.TheVariants.{SendDiagnostic, LogSelect, LogSense, ModeSelect10, ModeSense10, ReportSupportedOperationCodes, ReportSupportedTaskManagementFunctions, PositionToElement, InitializeElementStatusWithRange}
+use Rattle.scsi_cdb.specs.declared.host_request.HostRequest.TheVariants.{SendDiagnostic, LogSelect, LogSense, ModeSelect10, ModeSense10, ReportSupportedOperationCodes, ReportSupportedTaskManagementFunctions, PositionToElement, InitializeElementStatusWithRange, ExchangeMedium}
 use Rattle.scsi_cdb.specs.declared.profile.Profile.TheVariants.{Hosts}
+use Rattle.scsi_cdb.specs.declared.request.Request.{Request}
 use Rattle.scsi_cdb.specs.declared.request.Request.TheVariants.{TestUnitReady, ModeSense, ReadElementStatus, Host}
 use Rattle.tape_medium.specs.declared.volume.VolumeTag.{VolumeTag}
 use Rattle.tape_medium.specs.declared.volume.Volume.{Volume}
@@ -10,9 +11,9 @@ use Rattle.inquiry_data.specs.Identity as identity
 use Rattle.inquiry_data.specs.declared.unit_identity.UnitIdentity.{UnitIdentity}
 use Rattle.unit_attention.specs.declared.kind.Kind.TheVariants.{LogParametersChanged}
 use Rattle.device_server.specs.HostChanger.{host_view}
-use Rattle.device_server.specs.View.{DeviceView, Changer, identity_of, profile_of, journeyed, reset_of}
+use Rattle.device_server.specs.View.{DeviceView, Changer, identity_of, profile_of, journeyed, exchange_journeyed, reset_of}
 use Rattle.device_server.specs.Rows.{asked, gives, checks, selects}
-use Rattle.device_server.specs.ChangerRows.{cartridge, no_command, wrong_field, no_element, source_empty, move}
+use Rattle.device_server.specs.ChangerRows.{cartridge, no_command, wrong_field, no_element, source_empty, destination_full, internal_failure, move}
 
 -- the changer of library 1A2B3C4Dh
 abbrev pub changer_identity : UnitIdentity
@@ -54,6 +55,43 @@ pub record JourneysForHosts (a : VolumeTag) : Type 0 where
       ≡ gives (library None None None (Some (cartridge a)) None None None (Some 0x400)) []
   pub nothing_moved : asked (one_volume a) (move 0x400 0x402) ≡ checks (one_volume a) [] source_empty
   pub reset : reset_of (in_drive a) ≡ in_drive a
+
+-- an exchange by its addresses, with the transport 0
+abbrev pub exchange : (source first second : ℕ) → Request
+exchange source first second = Host (ExchangeMedium 0 source first second false false)
+
+-- two volumes in the first and the second storage element
+abbrev pub two_volumes : (a b : VolumeTag) → DeviceView
+two_volumes a b = library None (Some (cartridge a)) (Some (cartridge b)) None None None None None
+
+-- the second in the drive, from 0401h
+abbrev pub second_in_drive : (a b : VolumeTag) → DeviceView
+second_in_drive a b = library (Some b) (Some (cartridge a)) None None (Some 0x401) None None None
+
+-- exchanges that are the changer's own, and those that it refuses or leaves to the drive
+pub record ExchangesForHosts (a b : VolumeTag) : Type 0 where
+  pub exchanged : asked (two_volumes a b) (exchange 0x400 0x401 0x402)
+      ≡ gives (library None None (Some (cartridge a)) (Some (cartridge b)) None None (Some 0x400) (Some 0x401)) []
+  pub swapped : asked (two_volumes a b) (exchange 0x400 0x401 0x400)
+      ≡ gives (library None (Some (cartridge b)) (Some (cartridge a)) None None (Some 0x401) (Some 0x400) None) []
+  pub onto_itself : asked (two_volumes a b) (exchange 0x400 0x400 0x402) ≡ checks (two_volumes a b) [] no_element
+  pub first_is_second : asked (two_volumes a b) (exchange 0x400 0x401 0x401) ≡ checks (two_volumes a b) [] no_element
+  pub nothing_at_the_source : asked (two_volumes a b) (exchange 0x402 0x401 0x400) ≡ checks (two_volumes a b) [] source_empty
+  pub nothing_at_the_first : asked (two_volumes a b) (exchange 0x400 0x402 0x400) ≡ checks (two_volumes a b) [] source_empty
+  pub second_full : asked (library None (Some (cartridge a)) (Some (cartridge b)) (Some (cartridge a)) None None None None) (exchange 0x400 0x401 0x402)
+      ≡ checks (library None (Some (cartridge a)) (Some (cartridge b)) (Some (cartridge a)) None None None None) [] destination_full
+  pub no_such_second : asked (two_volumes a b) (exchange 0x400 0x401 0x403) ≡ checks (two_volumes a b) [] no_element
+  pub into_no_drive : asked (two_volumes a b) (exchange 0x400 0x401 0x101) ≡ checks (two_volumes a b) [] no_element
+  pub transport_as_source : asked (two_volumes a b) (exchange 0 0x401 0x402) ≡ checks (two_volumes a b) [] no_element
+  pub by_another_transport : asked (two_volumes a b) (Host (ExchangeMedium 1 0x400 0x401 0x402 false false)) ≡ checks (two_volumes a b) [] no_element
+  pub first_turned_over : asked (two_volumes a b) (Host (ExchangeMedium 1 0x400 0x401 0x402 true false)) ≡ checks (two_volumes a b) [] wrong_field
+  pub second_turned_over : asked (two_volumes a b) (Host (ExchangeMedium 1 0x400 0x401 0x402 false true)) ≡ checks (two_volumes a b) [] wrong_field
+  pub with_the_drive : asked (second_in_drive a b) (exchange 0x400 0x100 0x402) ≡ checks (second_in_drive a b) [] internal_failure
+  pub with_the_empty_drive : asked (two_volumes a b) (exchange 0x400 0x100 0x402) ≡ checks (two_volumes a b) [] source_empty
+  pub noted : exchange_journeyed (library (Some a) None None (Some (cartridge b)) (Some 0x401) None None None) 0x400 0x100 0x402
+      ≡ library (Some a) None None (Some (cartridge b)) (Some 0x400) None None (Some 0x401)
+  pub swap_noted : exchange_journeyed (library (Some a) (Some (cartridge b)) None None (Some 0x401) None None None) 0x400 0x100 0x400
+      ≡ library (Some a) (Some (cartridge b)) None None (Some 0x400) (Some 0x401) None None
 
 -- with DVCID the drive's identity
 pub record IdentitiesForHosts (a : VolumeTag) : Type 0 where

@@ -2,7 +2,7 @@
 use Rattle.std.specs.Prelude.{ℕ, ◌-◌, ◌==◌, Bool, true, false, not, ◌&&◌, ◌||◌, List, [], length, take, Option, Some, None, is_some, Result, Ok, Err, if◌then◌else◌}
 use Rattle.std.specs.Option.{option_map}
 use Rattle.scsi_cdb.specs.declared.host_request.HostRequest.{HostRequest}
-use Rattle.scsi_cdb.specs.declared.host_request.HostRequest.TheVariants.{SendDiagnostic, LogSelect, LogSense, ModeSelect10, ModeSense10, ReportSupportedOperationCodes, ReportSupportedTaskManagementFunctions, PositionToElement, InitializeElementStatusWithRange}
+use Rattle.scsi_cdb.specs.declared.host_request.HostRequest.TheVariants.{SendDiagnostic, LogSelect, LogSense, ModeSelect10, ModeSense10, ReportSupportedOperationCodes, ReportSupportedTaskManagementFunctions, PositionToElement, InitializeElementStatusWithRange, ExchangeMedium}
 use Rattle.scsi_cdb.specs.declared.kind.Kind.TheVariants as kind
 use Rattle.scsi_cdb.specs.declared.request.Request.{Request}
 use Rattle.scsi_cdb.specs.declared.request.Request.TheVariants.{ReadBlockLimits, Read, Write, ModeSelect, ModeSense, LoadUnload, Host}
@@ -126,6 +126,7 @@ host_command_step d h (ReportSupportedOperationCodes rctd options code action al
     (d, answers allocation_length (codes_answer kind.Drive rctd (options_at options) code action))
 host_command_step d h (ReportSupportedTaskManagementFunctions repd allocation_length) bytes = (d, done (take allocation_length (task_management repd)))
 host_command_step d h (PositionToElement transport destination invert) bytes = (d, refused InvalidCommandOperationCode)
+host_command_step d h (ExchangeMedium transport source first second inv1 inv2) bytes = (d, refused InvalidCommandOperationCode)
 host_command_step d h (InitializeElementStatusWithRange fast range start count) bytes = (d, refused InvalidCommandOperationCode)
 
 -- THE STEP of a drive of the hosts' profile by a command whose fields aren't refused

@@ -1,7 +1,7 @@
 -- What is refused by fields and sent data alone in the hosts' profile: where it differs from the default one, which commands are judged otherwise.
 use Rattle.std.specs.Prelude.{ℕ, ◌==◌, nat_lt, Bool, not, ◌&&◌, ◌||◌, List, length, Option, Some, None, Result, Ok, Err}
 use Rattle.scsi_cdb.specs.declared.host_request.HostRequest.{HostRequest}
-use Rattle.scsi_cdb.specs.declared.host_request.HostRequest.TheVariants.{SendDiagnostic, LogSelect, LogSense, ModeSelect10, ModeSense10, ReportSupportedOperationCodes, ReportSupportedTaskManagementFunctions, PositionToElement, InitializeElementStatusWithRange}
+use Rattle.scsi_cdb.specs.declared.host_request.HostRequest.TheVariants.{SendDiagnostic, LogSelect, LogSense, ModeSelect10, ModeSense10, ReportSupportedOperationCodes, ReportSupportedTaskManagementFunctions, PositionToElement, InitializeElementStatusWithRange, ExchangeMedium}
 use Rattle.scsi_cdb.specs.declared.kind.Kind.{Kind}
 use Rattle.scsi_cdb.specs.declared.kind.Kind.TheVariants as kind
 use Rattle.scsi_cdb.specs.declared.request.Request.{Request}
@@ -39,8 +39,8 @@ abbrev pub log_sense_fault : Kind → LogQuery → Option Condition
 log_sense_fault kind.Drive sense = drive_log_fault sense
 log_sense_fault kind.Changer sense = changer_log_fault sense
 
--- the commands that only the hosts' profile has. SEND DIAGNOSTIC: there is the default self-test alone, and no page is sent. POSITION TO ELEMENT:
--- media aren't turned over.
+-- the commands that only the hosts' profile has. SEND DIAGNOSTIC: there is the default self-test alone, and no page is sent. POSITION TO ELEMENT,
+-- EXCHANGE MEDIUM: media aren't turned over.
 abbrev pub host_command_fault : Kind → HostRequest → List ℕ → Option Condition
 host_command_fault kind (SendDiagnostic code self_test list_length) bytes = invalid_where (not (code == 0) || not (list_length == 0))
 host_command_fault kind (LogSelect pcr sp control page subpage list_length) bytes =
@@ -55,6 +55,7 @@ host_command_fault kind (ReportSupportedOperationCodes rctd options code action 
 host_command_fault kind (ReportSupportedTaskManagementFunctions repd allocation_length) bytes = None
 host_command_fault kind (PositionToElement transport destination invert) bytes = invalid_where invert
 host_command_fault kind (InitializeElementStatusWithRange fast range start count) bytes = None
+host_command_fault kind (ExchangeMedium transport source first second inv1 inv2) bytes = invalid_where (inv1 || inv2)
 
 -- LOAD UNLOAD: nothing is moved to the end of the tape, and HOLD is for unloading alone (profile). LOCATE: BT is ignored, and with CP there is
 -- just partition 0. READ ELEMENT STATUS: device identifiers can be asked for.

@@ -6,7 +6,7 @@ use Rattle.scsi_cdb.specs.declared.request.Request.{Request}
 use Rattle.tape_medium.specs.declared.volume.VolumeTag.{VolumeTag}
 use Rattle.tape_medium.specs.declared.volume.Volume.{Volume}
 use Rattle.tape_medium.specs.Elements.{tag_of, first_data_transfer}
-use Rattle.device_server.specs.View.{DeviceView, Drive, Changer, kind_of, drives_of, performed, taken, put, marked, journeyed, reset_of}
+use Rattle.device_server.specs.View.{DeviceView, Drive, Changer, kind_of, drives_of, performed, taken, put, marked, journeyed, exchange_journeyed, reset_of}
 use Rattle.device_server.specs.Ends.{IsSameDevice}
 
 -- of a drive the tag of the volume in its bay, alone; of a changer the tags noted at its data transfer elements, in their order
@@ -47,6 +47,9 @@ ResetsKeepMarks = (device : DeviceView) → KeepsMarks device (reset_of device)
 
 abbrev pub JourneysKeepMarks : Type 0
 JourneysKeepMarks = (device : DeviceView) (source destination : ℕ) → KeepsMarks device (journeyed device source destination)
+
+abbrev pub ExchangesKeepMarks : Type 0
+ExchangesKeepMarks = (device : DeviceView) (source first second : ℕ) → KeepsMarks device (exchange_journeyed device source first second)
 
 -- VOLUMES IN AND OUT change the mark of a drive, and none of a changer
 abbrev pub DrivesGive : Type 0

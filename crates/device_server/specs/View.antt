@@ -28,7 +28,7 @@ use Rattle.device_server.specs.FieldFaults.{field_fault_of}
 use Rattle.device_server.specs.Changer.{changer_step}
 use Rattle.device_server.specs.Drive.{DriveView, drive_step, drive_reset, rewound}
 use Rattle.device_server.specs.HostDrive.{host_drive_step}
-use Rattle.device_server.specs.HostChanger.{ChangerView, journey_noted, host_changer_step}
+use Rattle.device_server.specs.HostChanger.{ChangerView, journey_noted, exchange_noted, host_changer_step}
 
 -- a drive, or a changer
 pub data DeviceView : Type 0 where
@@ -105,6 +105,11 @@ marked (Changer c) place tag = elim (notes c.elements place tag) [ Ok after ↦ 
 abbrev pub journeyed : DeviceView → (source destination : ℕ) → DeviceView
 journeyed (Drive d) source destination = Drive d
 journeyed (Changer c) source destination = Changer (journey_noted c source destination)
+
+-- and so it does where two were exchanged
+abbrev pub exchange_journeyed : DeviceView → (source first second : ℕ) → DeviceView
+exchange_journeyed (Drive d) source first second = Drive d
+exchange_journeyed (Changer c) source first second = Changer (exchange_noted c source first second)
 
 -- THE STEP by a command, with the data sent with it: first its fields are looked at
 

@@ -1,15 +1,17 @@
 -- Which volume is at which place of a device, and what stays of it: no command loses a volume, makes one or exchanges two.
 use Rattle.std.specs.Prelude.{◌≡◌, ◌≢◌, ◌⊎◌, ℕ, ◌==◌, Bool, true, false, List, [], ◌∷◌, IsPermutation, Option, Some, None, Ok, unwrap_or, if◌then◌else◌}
 use Rattle.scsi_cdb.specs.declared.kind.Kind.TheVariants as kind
+use Rattle.scsi_cdb.specs.declared.host_request.HostRequest.{HostRequest}
+use Rattle.scsi_cdb.specs.declared.host_request.HostRequest.TheVariants.{ExchangeMedium}
 use Rattle.scsi_cdb.specs.declared.request.Request.{Request}
-use Rattle.scsi_cdb.specs.declared.request.Request.TheVariants.{Write, WriteFilemarks, Erase, MoveMedium}
+use Rattle.scsi_cdb.specs.declared.request.Request.TheVariants.{Write, WriteFilemarks, Erase, MoveMedium, Host}
 use Rattle.scsi_sense.specs.declared.status.Status.TheVariants.{Good}
 use Rattle.tape_medium.specs.declared.volume.VolumeTag.{VolumeTag}
 use Rattle.tape_medium.specs.declared.volume.Volume.{Volume}
 use Rattle.tape_medium.specs.Elements.{element_at, held_in}
 use Rattle.tape_medium.specs.Volumes.{present, volumes}
 use Rattle.device_server.specs.declared.outcome.Outcome.{Outcome}
-use Rattle.device_server.specs.View.{DeviceView, Drive, Changer, kind_of, performed, taken, put, marked, journeyed, reset_of}
+use Rattle.device_server.specs.View.{DeviceView, Drive, Changer, kind_of, performed, taken, put, marked, journeyed, exchange_journeyed, reset_of}
 
 -- the volume at a place, if there is one: a drive's bay is place 0, a changer's are its storage and import/export elements, by address
 abbrev pub volume_at : DeviceView → (place : ℕ) → Option Volume
@@ -65,15 +67,36 @@ pub record Carries (before after : DeviceView) (source destination : ℕ) : Type
   pub others : (other : ℕ) → other ≢ source → other ≢ destination → volume_at after other ≡ volume_at before other
   pub all : IsPermutation (volumes_of before) (volumes_of after)
 
--- the commands that change what is on a tape, and the one that changes where a volume is
+-- two volumes were exchanged: the one at the first destination is at the second, the one at the source at the first, and the others are where
+-- they were. Where the second destination isn't the source, it was empty, and the source is. They are the same volumes, also of places that no
+-- address names.
+pub record Exchanges (before after : DeviceView) (source first second : ℕ) : Type 0 where
+  pub one : Volume
+  pub other : Volume
+  pub apart : (source ≢ first) × (first ≢ second)
+  pub full : volume_at before source ≡ Some one
+  pub first_full : volume_at before first ≡ Some other
+  pub empty : second ≢ source → volume_at before second ≡ None
+  pub left : second ≢ source → volume_at after source ≡ None
+  pub first_there : volume_at after first ≡ Some one
+  pub there : volume_at after second ≡ Some other
+  pub others : (place : ℕ) → place ≢ source → place ≢ first → place ≢ second → volume_at after place ≡ volume_at before place
+  pub all : IsPermutation (volumes_of before) (volumes_of after)
+
+-- the commands that change what is on a tape, and those that change where volumes are
 abbrev pub is_write : Request → Bool
 is_write (Write fixed transfer_length) = true
 is_write (WriteFilemarks wsmk immed count) = true
 is_write Erase = true
 is_write request = false
 
+abbrev pub is_exchange : HostRequest → Bool
+is_exchange (ExchangeMedium transport source first second inv1 inv2) = true
+is_exchange command = false
+
 abbrev pub is_move : Request → Bool
 is_move (MoveMedium transport source destination invert) = true
+is_move (Host command) = is_exchange command
 is_move request = false
 
 -- a command changes nothing of the kind where it isn't one of those, or isn't GOOD
@@ -93,16 +116,22 @@ abbrev pub DrivesKeepTheirTape : Type 0
 DrivesKeepTheirTape = (device : DeviceView) (request : Request) (bytes : List ℕ) → kind_of device ≡ kind.Drive
     → WritesNothing request (performed device request bytes).1 → Keeps SameVolume device (performed device request bytes).0
 
--- A changer stays just as it is, but by a MOVE MEDIUM that is GOOD
+-- A changer stays just as it is, but by a MOVE MEDIUM or an EXCHANGE MEDIUM that is GOOD
 abbrev pub ChangersStay : Type 0
 ChangersStay = (device : DeviceView) (request : Request) (bytes : List ℕ) → kind_of device ≡ kind.Changer
     → MovesNothing request (performed device request bytes).1 → (performed device request bytes).0 ≡ device
 
--- which carries one volume
+-- the first of which carries one volume
 abbrev pub MovesCarryOne : Type 0
 MovesCarryOne = (device : DeviceView) (transport source destination : ℕ) (invert : Bool) (bytes : List ℕ)
     → (performed device (MoveMedium transport source destination invert) bytes).1.status ≡ Good
     → Carries device (performed device (MoveMedium transport source destination invert) bytes).0 source destination
+
+-- and the other two
+abbrev pub ExchangesCarryTwo : Type 0
+ExchangesCarryTwo = (device : DeviceView) (transport source first second : ℕ) (inv1 inv2 : Bool) (bytes : List ℕ)
+    → (performed device (Host (ExchangeMedium transport source first second inv1 inv2)) bytes).1.status ≡ Good
+    → Exchanges device (performed device (Host (ExchangeMedium transport source first second inv1 inv2)) bytes).0 source first second
 
 -- A RESET leaves each volume where it is
 abbrev pub ResetsKeepVolumes : Type 0
@@ -121,3 +150,7 @@ MarksMoveNothing = (before after : DeviceView) (place : ℕ) (tag : Option Volum
 
 abbrev pub JourneysMoveNothing : Type 0
 JourneysMoveNothing = (device : DeviceView) (source destination other : ℕ) → volume_at (journeyed device source destination) other ≡ volume_at device other
+
+abbrev pub ExchangesThatAreNotedMoveNothing : Type 0
+ExchangesThatAreNotedMoveNothing = (device : DeviceView) (source first second other : ℕ)
+    → volume_at (exchange_journeyed device source first second) other ≡ volume_at device other

@@ -13,7 +13,7 @@ pub trait DeviceServer: Drop {
     ghost use Rattle.std.specs.Prelude.{◌≡◌, false, None, Ok, Err, IfOk, OnOk, OnErr, IfErr};
     ghost use Rattle.device_server.specs.Failures.{leaves_to_drives};
     ghost use Rattle.device_server.specs.Volumes.{is_move};
-    ghost use Rattle.device_server.specs.View.{DeviceView, kind_of, profile_of, identity_of, drives_of, journeyed, field_fault, held_in, performed, taken, put, marked, reset_of};
+    ghost use Rattle.device_server.specs.View.{DeviceView, kind_of, profile_of, identity_of, drives_of, journeyed, exchange_journeyed, field_fault, held_in, performed, taken, put, marked, reset_of};
 
     ghost shown: { Self → DeviceView };
 
@@ -37,13 +37,13 @@ pub trait DeviceServer: Drop {
     fn held(&self, place: u16) -> Option<VolumeTag>
         ensures { result ≡ held_in (shown self.now) place };
 
-    /// Whether it leaves a command to the drives: a MOVE MEDIUM (SMC-3, "MOVE MEDIUM command") whose fields, map and marks refuse nothing, and
-    /// one of whose ends is a data transfer element of the changer. A changer that is asked to carry it out alone ends it by 44h/00h.
+    /// Whether it leaves a command to the drives: a MOVE MEDIUM or an EXCHANGE MEDIUM (SMC-3, "MOVE MEDIUM command", "EXCHANGE MEDIUM command")
+    /// whose fields, map and marks refuse nothing, and one of whose ends is a data transfer element of the changer. A changer that is asked to carry it out alone ends it by 44h/00h.
     fn leaves_to_drives(&self, request: &Request) -> bool
         ensures { result ≡ leaves_to_drives (shown self.now) request.now };
 
     /// Carries out a command of which no field is refused, with the data sent with it. Want of memory changes nothing. An allocation length
-    /// has cut the data. A MOVE MEDIUM takes no memory. A command that its kind doesn't have ends in 20h/00h, at a drive after NOT READY, and
+    /// has cut the data. A MOVE MEDIUM or EXCHANGE MEDIUM takes no memory. A command that its kind doesn't have ends in 20h/00h, at a drive after NOT READY, and
     /// changes nothing; a unit never sends one.
     fn perform(
         &mut self,
@@ -79,6 +79,11 @@ pub trait DeviceServer: Drop {
     /// (SMC-3, "READ ELEMENT STATUS command", SOURCE STORAGE ELEMENT ADDRESS).
     fn note_journey(&mut self, source: u16, destination: u16)
         ensures { shown self.new ≡ journeyed (shown self.old) source destination };
+
+    /// Notes that the volume at the first destination was carried to the second, and the one at the source to the first (SMC-3, "EXCHANGE MEDIUM
+    /// command"), by a drive or not.
+    fn note_exchange(&mut self, source: u16, first: u16, second: u16)
+        ensures { shown self.new ≡ exchange_journeyed (shown self.old) source first second };
 
     /// A reset of the unit (SAM-5, "Logical unit reset").
     fn reset(&mut self)

@@ -158,6 +158,11 @@ fn host_command_fault(kind: Kind, command: &HostRequest, bytes: &[u8]) -> Option
             *requested_service_action,
         ),
         HostRequest::PositionToElement { invert, .. } => invalid_where(*invert),
+        HostRequest::ExchangeMedium {
+            invert_first,
+            invert_second,
+            ..
+        } => invalid_where(*invert_first || *invert_second),
         HostRequest::ReportSupportedTaskManagementFunctions { .. }
         | HostRequest::InitializeElementStatusWithRange { .. } => None,
     }

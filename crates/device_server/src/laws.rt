@@ -3,10 +3,10 @@
 ghost use Rattle.tape_medium.specs.declared.volume.VolumeTag.{VolumeTag};
 ghost use Rattle.device_server.specs.Rows.{ReadsOfOtherLength, SuppressedLengths, SpacesBothWays, PositionsRead, ModesOfADrive, RefusedFields, RefusedLists, FixedTransfers, RefusedWrites, VolumesOfADrive, BayOfADrive};
 ghost use Rattle.device_server.specs.ChangerRows.{StatusOfAChanger, ModesOfAChanger, MovesOfAChanger, MovesOfADrive, PlacesOfAChanger, PlacesOfTwoDrives, SlotsOfAChanger, MovesByMarks};
-ghost use Rattle.device_server.specs.Ends.{EndsItsOwnWay, SpecTellsOfModes, StaysTheSameDevice, StaysTheSameByReset, StaysTheSameByJourneys};
-ghost use Rattle.device_server.specs.Marks.{CommandsKeepMarks, ResetsKeepMarks, JourneysKeepMarks, DrivesGive, DrivesGet, ChangersGive, ChangersGet, MarksOne, EachIsMarked};
+ghost use Rattle.device_server.specs.Ends.{EndsItsOwnWay, SpecTellsOfModes, StaysTheSameDevice, StaysTheSameByReset, StaysTheSameByJourneys, StaysTheSameByExchanges};
+ghost use Rattle.device_server.specs.Marks.{CommandsKeepMarks, ResetsKeepMarks, JourneysKeepMarks, ExchangesKeepMarks, DrivesGive, DrivesGet, ChangersGive, ChangersGet, MarksOne, EachIsMarked};
 ghost use Rattle.device_server.specs.MarkRows.{MarksOfADrive, MarksOfAChanger};
-ghost use Rattle.device_server.specs.Volumes.{DrivesKeepTheirVolume, DrivesKeepTheirTape, ChangersStay, MovesCarryOne, ResetsKeepVolumes, TakesOne, PutsOne, MarksMoveNothing, JourneysMoveNothing};
+ghost use Rattle.device_server.specs.Volumes.{DrivesKeepTheirVolume, DrivesKeepTheirTape, ChangersStay, MovesCarryOne, ExchangesCarryTwo, ResetsKeepVolumes, TakesOne, PutsOne, MarksMoveNothing, JourneysMoveNothing, ExchangesThatAreNotedMoveNothing};
 ghost use Rattle.device_server.specs.VolumeRows.{VolumeOfADrive, SameVolumes, VolumesOfAChanger};
 
 /// Reads of one block that ask for more or fewer bytes than it has, and reads at a filemark and at the end of data.
@@ -101,6 +101,7 @@ pub fn stays_the_same_device()
     ensures performed { StaysTheSameDevice }
     ensures reset { StaysTheSameByReset }
     ensures journey { StaysTheSameByJourneys }
+    ensures exchange { StaysTheSameByExchanges }
 {}
 
 /// The marks of drives and changers: the tag of what is in a bay, and the tags noted at data transfer elements.
@@ -115,6 +116,7 @@ pub fn marks_stay()
     ensures performed { CommandsKeepMarks }
     ensures reset { ResetsKeepMarks }
     ensures journey { JourneysKeepMarks }
+    ensures exchange { ExchangesKeepMarks }
 {}
 
 /// Law: a volume that goes out of a drive or into it is the one that its mark tells, before or after. In and out of a changer's own
@@ -136,13 +138,14 @@ pub fn volumes_of_devices()
     ensures changers { (a b : VolumeTag) → VolumesOfAChanger a b }
 {}
 
-/// Law: each volume stays where it is through commands and resets, but by a MOVE MEDIUM that is GOOD, which carries just one. What is on
-/// a tape changes only by a WRITE, WRITE FILEMARKS or ERASE that is GOOD.
+/// Law: each volume stays where it is through commands and resets, but by a MOVE MEDIUM that is GOOD, which carries just one, and an
+/// EXCHANGE MEDIUM that is GOOD, which carries two. What is on a tape changes only by a WRITE, WRITE FILEMARKS or ERASE that is GOOD.
 pub fn volumes_stay_in_place()
     ensures drives { DrivesKeepTheirVolume }
     ensures tapes { DrivesKeepTheirTape }
     ensures changers { ChangersStay }
     ensures moves { MovesCarryOne }
+    ensures exchanges { ExchangesCarryTwo }
     ensures reset { ResetsKeepVolumes }
 {}
 
@@ -152,6 +155,7 @@ pub fn volumes_go_in_and_out()
     ensures puts { PutsOne }
     ensures marks { MarksMoveNothing }
     ensures journeys { JourneysMoveNothing }
+    ensures exchanges { ExchangesThatAreNotedMoveNothing }
 {}
 
 ghost use Rattle.device_server.specs.FailureRows.{FailuresOfAChanger};
@@ -162,8 +166,8 @@ pub fn failures_of_a_changer()
     ensures { (a b : VolumeTag) → FailuresOfAChanger a b }
 {}
 
-/// Law: no drive ends a command by 44h/00h, and a changer just a MOVE MEDIUM that its map and marks don't refuse and that takes a volume
-/// out of a drive or into one.
+/// Law: no drive ends a command by 44h/00h, and a changer just a MOVE MEDIUM or an EXCHANGE MEDIUM that its map and marks don't refuse
+/// and that takes a volume out of a drive or into one.
 pub fn fails_only_for_drives()
     ensures drives { DrivesNeverFail }
     ensures changers { ChangersFailForDrives }
@@ -181,7 +185,7 @@ pub fn settling_changes_nothing_else()
 {}
 
 ghost use Rattle.device_server.specs.HostRows.{ReadinessForHosts, PositionsForHosts, ModesForHosts, CountersForHosts, LogsForHosts, CommandsForHosts};
-ghost use Rattle.device_server.specs.HostChangerRows.{JourneysForHosts, IdentitiesForHosts, AnswersOfAHostsChanger};
+ghost use Rattle.device_server.specs.HostChangerRows.{JourneysForHosts, ExchangesForHosts, IdentitiesForHosts, AnswersOfAHostsChanger};
 
 /// A drive of the hosts' profile: volumes that are ejected, held and loaded, and positions.
 #[tactic(auto, unfolding(crate::specs::View::profile_of))]
@@ -208,6 +212,7 @@ pub fn logs_for_hosts()
 #[tactic(auto, unfolding(crate::specs::View::profile_of, hex::specs::Hex::encode_with))]
 pub fn journeys_for_hosts()
     ensures journeys { (a : VolumeTag) → JourneysForHosts a }
+    ensures exchanges { (a b : VolumeTag) → ExchangesForHosts a b }
     ensures identities { (a : VolumeTag) → IdentitiesForHosts a }
 {}
 

@@ -1,4 +1,5 @@
 pub mod Address
+pub mod Exchange
 pub mod Limits
 pub mod Runs
 pub mod Pages

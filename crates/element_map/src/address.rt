@@ -38,7 +38,7 @@ impl Elements {
 }
 
 /// Which of `count` elements from the address `first` on has an address.
-fn place_among(first: u16, count: usize, address: u16) -> Option<usize>
+pub(crate) fn place_among(first: u16, count: usize, address: u16) -> Option<usize>
     requires { count ≤ 1024 }
     ensures { result ≡ (if is_among first count address then Some (address - first) else None) }
 {

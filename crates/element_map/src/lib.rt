@@ -4,6 +4,7 @@
 mod address;
 mod element_type;
 mod elements;
+mod exchange;
 mod layout;
 mod moves;
 mod place;

@@ -67,7 +67,7 @@ impl Elements {
     }
 
     /// The tag that an element but the transport is known to hold.
-    fn tag_held(&self, address: u16) -> Option<Option<VolumeTag>>
+    pub(crate) fn tag_held(&self, address: u16) -> Option<Option<VolumeTag>>
         ensures { result ≡ tag_held self.now (element_at self.now address) }
     {
         match self.element(address) {

@@ -1,11 +1,12 @@
 -- What a move changes of the sources, and what stays known of a volume.
 use Rattle.std.proofs.Common.{◌≡◌, ◌≢◌, ℕ, ◌+◌, ◌-◌, ◌<◌, ◌≤◌, ◌==◌, Bool, true, false, if◌then◌else◌, List, [], ◌∷◌, length, Option, Some, None, is_some, IsTrue, refl, ap, sym, subst, ◌∙◌, arith, get_or-set_same, get_or-set_other}
+use Rattle.std.proofs.lemmas.Bool.{eqb-true}
 use Rattle.std.proofs.lemmas.List.{length-set}
 use Rattle.tape_medium.specs.Elements.{is_among}
 use Rattle.element_sources.specs.declared.place.Place.{Place}
 use Rattle.element_sources.specs.declared.place.Place.TheVariants.{DataTransfer, ImportExport, Storage}
-use Rattle.element_sources.specs.Sources.{Sources, place_at, IsPlace, source_at_place, source_at_some, source_at, source_set, last_outside, source_carried, source_moved}
-use Rattle.element_sources.specs.Journeys.{Move, Journey, outside_after, travelled, noted, noted_all, travelled_all, IsMove, AreMoves, origin_in, origin_at, IsKnown}
+use Rattle.element_sources.specs.Sources.{Sources, place_at, IsPlace, source_at_place, source_at_some, source_at, source_set, last_outside, source_carried, source_moved, sources_crossed, source_exchanged}
+use Rattle.element_sources.specs.Journeys.{Move, Carried, Exchanged, Journey, outside_after, arrived, travelled, noted, noted_all, travelled_all, IsCarried, IsExchanged, IsMove, AreMoves, origin_in, origin_at, IsKnown}
 
 -- PLACES
 
@@ -174,26 +175,147 @@ arrives_by s source destination outside None Q p q is_p is_q known = cc
 arrives_by s source destination outside (Some from) None p q is_p is_q known = cc
 arrives_by s source destination outside (Some from) (Some to) p q is_p is_q known = arrives s source destination outside from to q known
 
+elsewhere : (a b : ℕ) → (a == b) ≡ false → b ≢ a
+elsewhere a b other = grind arith
+
 -- one move
-known_after : (s : Sources) (j : Journey) (move : Move) (b : Bool) → (move.source == j.address) ≡ b → IsMove s j move → IsKnown s j
-    → IsKnown (noted s move) (if b then record { address = move.destination; outside = outside_after (place_at s move.destination) move.destination j.outside } else j)
-known_after s j move true same is known =
-    let at : move.source ≡ j.address = grind arith in
-    ap (origin_in (noted s move) move.destination) (place_at-source_moved s move.source move.destination move.destination)
-    ∙ arrives_by s move.source move.destination j.outside (place_at s move.source) (place_at s move.destination) refl refl is.source is.destination
+known_after : (s : Sources) (j : Journey) (source destination : ℕ) (b : Bool) → (source == j.address) ≡ b → IsCarried s j source destination → IsKnown s j
+    → IsKnown (source_moved s source destination) (if b then arrived s j destination else j)
+known_after s j source destination true same is known =
+    let at : source ≡ j.address = eqb-true source j.address same in
+    ap (origin_in (source_moved s source destination) destination) (place_at-source_moved s source destination destination)
+    ∙ arrives_by s source destination j.outside (place_at s source) (place_at s destination) refl refl is.from is.to
     (ap (origin_at s) at ∙ known)
-known_after s j move false other is known =
-    let not_source : j.address ≢ move.source = grind arith in
-    let not_destination : j.address ≢ move.destination = λ same. is.elsewhere (sym same) in
-    ap (origin_in (noted s move) j.address) (place_at-source_moved s move.source move.destination j.address)
-    ∙ origin_by s (noted s move) j.address (place_at s j.address)
-    (others_by s move.source move.destination j.address (place_at s move.source) (place_at s move.destination) (place_at s j.address) refl refl refl not_source not_destination)
+known_after s j source destination false other is known =
+    let not_source : j.address ≢ source = elsewhere source j.address other in
+    let not_destination : j.address ≢ destination = λ same. is.elsewhere (sym same) in
+    ap (origin_in (source_moved s source destination) j.address) (place_at-source_moved s source destination j.address)
+    ∙ origin_by s (source_moved s source destination) j.address (place_at s j.address)
+    (others_by s source destination j.address (place_at s source) (place_at s destination) (place_at s j.address) refl refl refl not_source not_destination)
     ∙ known
+
+-- EXCHANGES
+
+-- what an exchange leaves where each of its addresses names an element
+abbrev crossed : Sources → (source first : ℕ) → (from between to : Place) → Sources
+crossed s source first from between to = source_set (source_set (source_set s from None) between (last_outside s source from)) to (last_outside s first between)
+
+place_at-crossed : (s : Sources) (source first : ℕ) (from between to : Place) (address : ℕ) → place_at (crossed s source first from between to) address ≡ place_at s address
+place_at-crossed s source first from between to address =
+    place_at-source_set (source_set (source_set s from None) between (last_outside s source from)) to (last_outside s first between) address
+    ∙ place_at-source_set (source_set s from None) between (last_outside s source from) address ∙ place_at-source_set s from None address
+
+place_at-sources_crossed : (s : Sources) (source first : ℕ) (P Q R : Option Place) (address : ℕ) → place_at (sources_crossed s source first P Q R) address ≡ place_at s address
+place_at-sources_crossed s source first None Q R address = refl
+place_at-sources_crossed s source first (Some from) None R address = refl
+place_at-sources_crossed s source first (Some from) (Some between) None address = refl
+place_at-sources_crossed s source first (Some from) (Some between) (Some to) address = place_at-crossed s source first from between to address
+
+place_at-source_exchanged : (s : Sources) (source first second address : ℕ) → place_at (source_exchanged s source first second) address ≡ place_at s address
+place_at-source_exchanged s source first second address = place_at-sources_crossed s source first (place_at s source) (place_at s first) (place_at s second) address
+
+-- two addresses of elements that aren't the same one
+apart : (s : Sources) (a b : ℕ) (p q : Place) → place_at s a ≡ Some p → place_at s b ≡ Some q → a ≢ b → address_of p ≢ address_of q
+apart s a b p q is_p is_q other same = other (place_address s a p is_p ∙ same ∙ sym (place_address s b q is_q))
+
+crossed_other : (s : Sources) (source first second address : ℕ) (P Q R S : Option Place) → place_at s source ≡ P → place_at s first ≡ Q → place_at s second ≡ R → place_at s address ≡ S
+    → address ≢ source → address ≢ first → address ≢ second → source_at_some (sources_crossed s source first P Q R) S ≡ source_at_some s S
+crossed_other s source first second address None Q R S p q r t not_source not_first not_second = refl
+crossed_other s source first second address (Some from) None R S p q r t not_source not_first not_second = refl
+crossed_other s source first second address (Some from) (Some between) None S p q r t not_source not_first not_second = refl
+crossed_other s source first second address (Some from) (Some between) (Some to) None p q r t not_source not_first not_second = refl
+crossed_other s source first second address (Some from) (Some between) (Some to) (Some at) p q r t not_source not_first not_second =
+    source-set_other (source_set (source_set s from None) between (last_outside s source from)) to at (last_outside s first between) (apart s address second at to t r not_second)
+    ∙ source-set_other (source_set s from None) between at (last_outside s source from) (apart s address first at between t q not_first)
+    ∙ source-set_other s from at None (apart s address source at from t p not_source)
+
+pub others_stay_in_exchanges : (s : Sources) (source first second address : ℕ) → address ≢ source → address ≢ first → address ≢ second
+    → source_at (source_exchanged s source first second) address ≡ source_at s address
+others_stay_in_exchanges s source first second address not_source not_first not_second =
+    ap (source_at_some (source_exchanged s source first second)) (place_at-source_exchanged s source first second address)
+    ∙ crossed_other s source first second address (place_at s source) (place_at s first) (place_at s second) (place_at s address) refl refl refl refl not_source not_first not_second
+
+crossed_left : (s : Sources) (source first second : ℕ) (P Q R : Option Place) → place_at s source ≡ P → place_at s first ≡ Q → place_at s second ≡ R
+    → source ≢ first → source ≢ second → IsTrue (is_some P) → IsTrue (is_some Q) → IsTrue (is_some R) → source_at_some (sources_crossed s source first P Q R) P ≡ None
+crossed_left s source first second None Q R p q r not_first not_second is_p is_q is_r = refl
+crossed_left s source first second (Some from) None R p q r not_first not_second is_p is_q is_r = cc
+crossed_left s source first second (Some from) (Some between) None p q r not_first not_second is_p is_q is_r = cc
+crossed_left s source first second (Some from) (Some between) (Some to) p q r not_first not_second is_p is_q is_r =
+    source-set_other (source_set (source_set s from None) between (last_outside s source from)) to from (last_outside s first between) (apart s source second from to p r not_second)
+    ∙ source-set_other (source_set s from None) between from (last_outside s source from) (apart s source first from between p q not_first)
+    ∙ source-set_same s from None (place_within s source from p)
+
+pub source_is_left_in_exchanges : (s : Sources) (source first second : ℕ) → source ≢ first → source ≢ second
+    → IsTrue (is_some (place_at s source)) → IsTrue (is_some (place_at s first)) → IsTrue (is_some (place_at s second))
+    → source_at (source_exchanged s source first second) source ≡ None
+source_is_left_in_exchanges s source first second not_first not_second is_p is_q is_r =
+    ap (source_at_some (source_exchanged s source first second)) (place_at-source_exchanged s source first second source)
+    ∙ crossed_left s source first second (place_at s source) (place_at s first) (place_at s second) refl refl refl not_first not_second is_p is_q is_r
+
+-- a volume that arrives where its origin is set
+set_arrives : (s : Sources) (destination outside : ℕ) (to : Place) (x : Option ℕ) → source_at_place s to ≡ x → x ≡ Some outside
+    → origin_in s destination (Some to) ≡ Some (outside_after (Some to) destination outside)
+set_arrives s destination outside (DataTransfer i) x is known = is ∙ known
+set_arrives s destination outside (ImportExport i) x is known = refl
+set_arrives s destination outside (Storage i) x is known = refl
+
+-- the volume at the source
+crossed_first : (s : Sources) (source first second outside : ℕ) (P Q R : Option Place) → place_at s source ≡ P → place_at s first ≡ Q → place_at s second ≡ R
+    → first ≢ second → IsTrue (is_some P) → IsTrue (is_some Q) → IsTrue (is_some R) → origin_in s source P ≡ Some outside
+    → origin_in (sources_crossed s source first P Q R) first Q ≡ Some (outside_after Q first outside)
+crossed_first s source first second outside None Q R p q r not_second is_p is_q is_r known = cc
+crossed_first s source first second outside (Some from) None R p q r not_second is_p is_q is_r known = cc
+crossed_first s source first second outside (Some from) (Some between) None p q r not_second is_p is_q is_r known = cc
+crossed_first s source first second outside (Some from) (Some between) (Some to) p q r not_second is_p is_q is_r known =
+    set_arrives (crossed s source first from between to) first outside between (last_outside s source from)
+    (source-set_other (source_set (source_set s from None) between (last_outside s source from)) to between (last_outside s first between) (apart s first second between to q r not_second)
+    ∙ source-set_same (source_set s from None) between (last_outside s source from) (within-source_set s from between None (place_within s first between q)))
+    known
+
+-- and the one at the first destination
+crossed_second : (s : Sources) (source first second outside : ℕ) (P Q R : Option Place) → place_at s source ≡ P → place_at s first ≡ Q → place_at s second ≡ R
+    → IsTrue (is_some P) → IsTrue (is_some Q) → IsTrue (is_some R) → origin_in s first Q ≡ Some outside
+    → origin_in (sources_crossed s source first P Q R) second R ≡ Some (outside_after R second outside)
+crossed_second s source first second outside None Q R p q r is_p is_q is_r known = cc
+crossed_second s source first second outside (Some from) None R p q r is_p is_q is_r known = cc
+crossed_second s source first second outside (Some from) (Some between) None p q r is_p is_q is_r known = cc
+crossed_second s source first second outside (Some from) (Some between) (Some to) p q r is_p is_q is_r known =
+    set_arrives (crossed s source first from between to) second outside to (last_outside s first between)
+    (source-set_same (source_set (source_set s from None) between (last_outside s source from)) to (last_outside s first between)
+    (within-source_set (source_set s from None) between to (last_outside s source from) (within-source_set s from to None (place_within s second to r))))
+    known
+
+exchanged_after : (s : Sources) (j : Journey) (source first second : ℕ) (b c : Bool) → (source == j.address) ≡ b → (first == j.address) ≡ c → IsExchanged s j source first second → IsKnown s j
+    → IsKnown (source_exchanged s source first second) (if b then arrived s j first else if c then arrived s j second else j)
+exchanged_after s j source first second true c same is_first is known =
+    let at : source ≡ j.address = eqb-true source j.address same in
+    ap (origin_in (source_exchanged s source first second) first) (place_at-source_exchanged s source first second first)
+    ∙ crossed_first s source first second j.outside (place_at s source) (place_at s first) (place_at s second) refl refl refl is.not_second is.from is.between is.to
+    (ap (origin_at s) at ∙ known)
+exchanged_after s j source first second false true other same is known =
+    let at : first ≡ j.address = eqb-true first j.address same in
+    ap (origin_in (source_exchanged s source first second) second) (place_at-source_exchanged s source first second second)
+    ∙ crossed_second s source first second j.outside (place_at s source) (place_at s first) (place_at s second) refl refl refl is.from is.between is.to
+    (ap (origin_at s) at ∙ known)
+exchanged_after s j source first second false false other another is known =
+    let not_source : j.address ≢ source = elsewhere source j.address other in
+    let not_first : j.address ≢ first = elsewhere first j.address another in
+    let not_second : j.address ≢ second = λ same. not_source (same ∙ is.elsewhere (sym same)) in
+    ap (origin_in (source_exchanged s source first second) j.address) (place_at-source_exchanged s source first second j.address)
+    ∙ origin_by s (source_exchanged s source first second) j.address (place_at s j.address)
+    (crossed_other s source first second j.address (place_at s source) (place_at s first) (place_at s second) (place_at s j.address) refl refl refl refl not_source not_first not_second)
+    ∙ known
+
+-- one of either
+known_after_either : (s : Sources) (j : Journey) (move : Move) → IsMove s j move → IsKnown s j → IsKnown (noted s move) (travelled s j move)
+known_after_either s j (Carried source destination) is known = known_after s j source destination (source == j.address) refl is known
+known_after_either s j (Exchanged source first second) is known =
+    exchanged_after s j source first second (source == j.address) (first == j.address) refl refl is known
 
 pub origins_stay : (s : Sources) (j : Journey) (moves : List Move) → AreMoves s j moves → IsKnown s j → IsKnown (noted_all s moves) (travelled_all s j moves)
 origins_stay s j [] are known = known
 origins_stay s j (move ∷ moves) are known =
-    origins_stay (noted s move) (travelled s j move) moves are.1 (known_after s j move (move.source == j.address) refl are.0 known)
+    origins_stay (noted s move) (travelled s j move) moves are.1 (known_after_either s j move are.0 known)
 
 pub starts_known : (s : Sources) (address i : ℕ) → place_at s address ≡ Some (Storage i) → origin_at s address ≡ Some address
 starts_known s address i is = ap (origin_in s address) is

@@ -2,12 +2,12 @@
 use Rattle.std.specs.Prelude.{◌≡◌, ◌≢◌, ℕ, ◌==◌, List, [], ◌∷◌, Option, Some, None, is_some, IsTrue, if◌then◌else◌}
 use Rattle.element_sources.specs.declared.place.Place.{Place}
 use Rattle.element_sources.specs.declared.place.Place.TheVariants.{DataTransfer, ImportExport, Storage}
-use Rattle.element_sources.specs.Sources.{Sources, place_at, source_at, last_outside, source_moved}
+use Rattle.element_sources.specs.Sources.{Sources, place_at, source_at, last_outside, source_moved, source_exchanged}
 
--- from one element to another
-pub record Move : Type 0 where
-  pub source : ℕ
-  pub destination : ℕ
+-- from one element to another, or by an EXCHANGE MEDIUM from the first destination to the second and from the source to the first
+pub data Move : Type 0 where
+  Carried : (source destination : ℕ) → Move
+  Exchanged : (source first second : ℕ) → Move
 
 -- the address of the element where a volume is, and of the one where it was last outside a drive
 pub record Journey : Type 0 where
@@ -21,14 +21,19 @@ outside_after (Some (DataTransfer i)) destination before = before
 outside_after (Some (ImportExport i)) destination before = destination
 outside_after (Some (Storage i)) destination before = destination
 
+-- the journey of a volume that arrives in an element
+abbrev pub arrived : Sources → Journey → (destination : ℕ) → Journey
+arrived s j destination = record { address = destination; outside = outside_after (place_at s destination) destination j.outside }
+
 -- the journey after a move, of this volume or of another
 abbrev pub travelled : Sources → Journey → Move → Journey
-travelled s j move =
-    if move.source == j.address then record { address = move.destination; outside = outside_after (place_at s move.destination) move.destination j.outside }
-    else j
+travelled s j (Carried source destination) = if source == j.address then arrived s j destination else j
+travelled s j (Exchanged source first second) =
+    if source == j.address then arrived s j first else if first == j.address then arrived s j second else j
 
 abbrev pub noted : Sources → Move → Sources
-noted s move = source_moved s move.source move.destination
+noted s (Carried source destination) = source_moved s source destination
+noted s (Exchanged source first second) = source_exchanged s source first second
 
 -- after some moves, the first of them first
 abbrev pub noted_all : Sources → List Move → Sources
@@ -40,10 +45,23 @@ travelled_all s j [] = j
 travelled_all s j (move ∷ moves) = travelled_all (noted s move) (travelled s j move) moves
 
 -- a move from element to element, whose destination isn't full with the volume
-pub record IsMove (s : Sources) (j : Journey) (move : Move) : Type 0 where
-  pub source : IsTrue (is_some (place_at s move.source))
-  pub destination : IsTrue (is_some (place_at s move.destination))
-  pub elsewhere : move.destination ≢ j.address
+pub record IsCarried (s : Sources) (j : Journey) (source destination : ℕ) : Type 0 where
+  pub from : IsTrue (is_some (place_at s source))
+  pub to : IsTrue (is_some (place_at s destination))
+  pub elsewhere : destination ≢ j.address
+
+-- and an exchange between elements, whose second destination isn't full with the volume either, unless it is the source
+pub record IsExchanged (s : Sources) (j : Journey) (source first second : ℕ) : Type 0 where
+  pub from : IsTrue (is_some (place_at s source))
+  pub between : IsTrue (is_some (place_at s first))
+  pub to : IsTrue (is_some (place_at s second))
+  pub not_source : source ≢ first
+  pub not_second : first ≢ second
+  pub elsewhere : second ≡ j.address → second ≡ source
+
+abbrev pub IsMove : Sources → Journey → Move → Type 0
+IsMove s j (Carried source destination) = IsCarried s j source destination
+IsMove s j (Exchanged source first second) = IsExchanged s j source first second
 
 abbrev pub AreMoves : Sources → Journey → List Move → Type 0
 AreMoves s j [] = Unit {0}
@@ -61,7 +79,7 @@ origin_at s address = origin_in s address (place_at s address)
 abbrev pub IsKnown : Sources → Journey → Type 0
 IsKnown s j = origin_at s j.address ≡ Some j.outside
 
--- it stays known, whatever moves are done: so a drive's source is the element where its volume was last outside a drive
+-- it stays known, whatever moves and exchanges are done: so a drive's source is the element where its volume was last outside a drive
 abbrev pub OriginsStayKnown : Type 0
 OriginsStayKnown = (s : Sources) (j : Journey) (moves : List Move) → AreMoves s j moves → IsKnown s j
     → IsKnown (noted_all s moves) (travelled_all s j moves)
@@ -85,3 +103,13 @@ abbrev pub SourceIsLeft : Type 0
 SourceIsLeft = (s : Sources) (source destination : ℕ) → source ≢ destination
     → IsTrue (is_some (place_at s source)) → IsTrue (is_some (place_at s destination))
     → source_at (source_moved s source destination) source ≡ None
+
+-- the same of an exchange, after which the source element has none unless it is the second destination
+abbrev pub OthersStayInExchanges : Type 0
+OthersStayInExchanges = (s : Sources) (source first second address : ℕ) → address ≢ source → address ≢ first → address ≢ second
+    → source_at (source_exchanged s source first second) address ≡ source_at s address
+
+abbrev pub SourceIsLeftInExchanges : Type 0
+SourceIsLeftInExchanges = (s : Sources) (source first second : ℕ) → source ≢ first → source ≢ second
+    → IsTrue (is_some (place_at s source)) → IsTrue (is_some (place_at s first)) → IsTrue (is_some (place_at s second))
+    → source_at (source_exchanged s source first second) source ≡ None

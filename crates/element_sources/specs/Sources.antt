@@ -71,6 +71,18 @@ source_carried s address (Some from) (Some to) = source_set (source_set s from N
 abbrev pub source_moved : Sources → (source destination : ℕ) → Sources
 source_moved s source destination = source_carried s source (place_at s source) (place_at s destination)
 
+-- two volumes go: the one at the first destination to the second, and the one at the source to the first
+abbrev pub sources_crossed : Sources → (source first : ℕ) → (from between to : Option Place) → Sources
+sources_crossed s source first None between to = s
+sources_crossed s source first (Some from) None to = s
+sources_crossed s source first (Some from) (Some between) None = s
+sources_crossed s source first (Some from) (Some between) (Some to) =
+    source_set (source_set (source_set s from None) between (last_outside s source from)) to (last_outside s first between)
+
+-- An EXCHANGE MEDIUM that was done; nothing changes where an address names none of the elements.
+abbrev pub source_exchanged : Sources → (source first second : ℕ) → Sources
+source_exchanged s source first second = sources_crossed s source first (place_at s source) (place_at s first) (place_at s second)
+
 -- a source that was known before
 abbrev pub source_known_in : Sources → Option Place → (source : ℕ) → Sources
 source_known_in s None source = s

@@ -1,8 +1,8 @@
 //! Laws of the definitions, and worked rows that they compute to. Each function has an empty body: its clauses are what is proved.
 ghost use Rattle.std.specs.Prelude.{◌≡◌, ◌∷◌, ◌++◌, [], Some, None, replicate, true, false};
 ghost use Rattle.tape_medium.specs.Elements.{empty_elements};
-ghost use Rattle.element_sources.specs.Sources.{none_known, source_at, source_known, source_moved};
-ghost use Rattle.element_sources.specs.Journeys.{OriginsStayKnown, StartsKnown, DrivesHaveOrigins, OthersStay, SourceIsLeft};
+ghost use Rattle.element_sources.specs.Sources.{none_known, source_at, source_known, source_moved, source_exchanged};
+ghost use Rattle.element_sources.specs.Journeys.{OriginsStayKnown, StartsKnown, DrivesHaveOrigins, OthersStay, SourceIsLeft, OthersStayInExchanges, SourceIsLeftInExchanges};
 ghost use Rattle.element_sources.specs.HostStatus.{host_status};
 ghost use Rattle.element_sources.specs.Laws.{PlainFormIsDefault, DescriptorsDifferInTwoBytes, StatusDiffersInTwoBytes};
 ghost use Rattle.element_sources.specs.Rows.{one_library, second_volume, asked, in_drive, in_drive_sources, after_drive, after_drive_sources, crossed, crossed_sources, started_sources};
@@ -13,7 +13,13 @@ pub fn moves_change_two_sources()
     ensures left { SourceIsLeft }
 {}
 
-/// Law: after any moves a drive's source is the element where its volume was last outside a drive, as soon as the volume was outside drives
+/// Law: an exchange changes the sources of its elements alone, and leaves none where it took a volume and put none.
+pub fn exchanges_change_their_sources()
+    ensures others { OthersStayInExchanges }
+    ensures left { SourceIsLeftInExchanges }
+{}
+
+/// Law: after any moves and exchanges a drive's source is the element where its volume was last outside a drive, as soon as the volume was outside drives
 /// once.
 pub fn drives_have_origins()
     ensures starts { StartsKnown }
@@ -130,6 +136,17 @@ pub fn worked_sources()
     ensures no_such_source { source_moved in_drive_sources 0x403 0x100 ≡ in_drive_sources }
     ensures no_such_destination { source_moved in_drive_sources 0x100 0x201 ≡ in_drive_sources }
     ensures medium_transport { source_moved in_drive_sources 0x100 0x000 ≡ in_drive_sources }
+    ensures exchanged { source_exchanged in_drive_sources 0x400 0x100 0x402
+        ≡ record { data_transfer = Some 0x400 ∷ []; import_export = None ∷ []; storage = None ∷ None ∷ Some 0x401 ∷ [] } }
+    ensures swapped { source_exchanged in_drive_sources 0x400 0x100 0x400
+        ≡ record { data_transfer = Some 0x400 ∷ []; import_export = None ∷ []; storage = Some 0x401 ∷ None ∷ None ∷ [] } }
+    ensures swapped_from_the_drive { source_exchanged in_drive_sources 0x100 0x400 0x100
+        ≡ record { data_transfer = Some 0x400 ∷ []; import_export = None ∷ []; storage = Some 0x401 ∷ None ∷ None ∷ [] } }
+    ensures out_of_the_drive { source_exchanged in_drive_sources 0x100 0x400 0x402
+        ≡ record { data_transfer = None ∷ []; import_export = None ∷ []; storage = Some 0x401 ∷ None ∷ Some 0x400 ∷ [] } }
+    ensures into_the_drive { source_exchanged (none_known 1 1 3) 0x401 0x200 0x100
+        ≡ record { data_transfer = Some 0x200 ∷ []; import_export = Some 0x401 ∷ []; storage = None ∷ None ∷ None ∷ [] } }
+    ensures no_such_second_destination { source_exchanged in_drive_sources 0x400 0x100 0x403 ≡ in_drive_sources }
     ensures started { source_at started_sources 0x100 ≡ Some 0x402 }
     ensures started_elsewhere { source_at started_sources 0x402 ≡ None }
     ensures unloaded { source_at (source_moved started_sources 0x100 0x401) 0x401 ≡ Some 0x402 }

@@ -2,7 +2,7 @@
 
 ghost use Rattle.std.specs.Prelude.{◌≡◌, ◌≤◌, IfOk, IfSome, Some, None, replicate};
 ghost use Rattle.element_map.specs.Limits.{drive_limit, portal_limit, slot_limit};
-ghost use Rattle.element_sources.specs.Sources.{none_known, place_at, IsPlace, source_at, source_at_place, source_known, source_set, source_moved};
+ghost use Rattle.element_sources.specs.Sources.{none_known, place_at, IsPlace, source_at, source_at_place, last_outside, source_known, source_set, source_moved, source_exchanged};
 
 use crate::place::{Place, number_among};
 use std::alloc::{AllocError, Global};
@@ -76,12 +76,40 @@ impl ElementSources {
         ensures { self.new ≡ source_moved self.old source destination }
     {
         if let (Some(from), Some(to)) = (self.place(source), self.place(destination)) {
-            let origin = match from {
-                Place::DataTransfer(_) => self.source_at_place(from),
-                Place::ImportExport(_) | Place::Storage(_) => Some(source),
-            };
+            let origin = self.last_outside(source, from);
             self.set_source(from, None);
             self.set_source(to, origin);
+        }
+    }
+
+    /// Notes an EXCHANGE MEDIUM that was done, by which the volume at the first destination went to the second, and the one at the source to
+    /// the first. Each has the source that `note_move` gives it, by what was known before; the source element has none then, unless it is
+    /// the second destination. Where an address names none of the elements, nothing changes.
+    pub fn note_exchange(&mut self, source: u16, first: u16, second: u16)
+        ensures { self.new ≡ source_exchanged self.old source first second }
+    {
+        let (Some(from), Some(between), Some(to)) = (
+            self.place(source),
+            self.place(first),
+            self.place(second),
+        ) else {
+            return;
+        };
+        let one = self.last_outside(source, from);
+        let other = self.last_outside(first, between);
+        self.set_source(from, None);
+        self.set_source(between, one);
+        self.set_source(to, other);
+    }
+
+    /// Where the volume at an element with an address was last outside a drive, where that is known.
+    fn last_outside(&self, address: u16, place: Place) -> Option<u16>
+        requires { IsPlace self.now place }
+        ensures { result ≡ last_outside self.now address place }
+    {
+        match place {
+            Place::DataTransfer(_) => self.source_at_place(place),
+            Place::ImportExport(_) | Place::Storage(_) => Some(address),
         }
     }
 

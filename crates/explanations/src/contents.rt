@@ -103,7 +103,8 @@ fn contents_of_host_request(request: HostRequest) -> Contents
         | HostRequest::LogSelect { .. }
         | HostRequest::ModeSelect10 { .. }
         | HostRequest::PositionToElement { .. }
-        | HostRequest::InitializeElementStatusWithRange { .. } => Contents::Other,
+        | HostRequest::InitializeElementStatusWithRange { .. }
+        | HostRequest::ExchangeMedium { .. } => Contents::Other,
     }
 }
 

@@ -1,6 +1,6 @@
 -- The numbers of a call, counted at each unit; and a unit that is kept stays so.
 use Rattle.std.proofs.Common.{◌≡◌, ◌≢◌, ℕ, ◌+◌, ◌<◌, Bool, true, false, Option, List, [], ◌∷◌, ◌++◌, length, refl, sym, ap, ◌∙◌, subst, inl, inr, arith, length-append}
-use Rattle.std.specs.Prelude.{cond, nat_eq}
+use Rattle.std.specs.Prelude.{cond, nat_eq, zero, suc}
 use Rattle.std.proofs.lemmas.Bool.Decides.{nat_tests}
 use Rattle.std.proofs.lemmas.List.Sums.{sum_by-append}
 use Rattle.scsi_cdb.specs.declared.kind.Kind.{Kind}
@@ -15,13 +15,13 @@ use Rattle.device_server.proofs.SameDevice.{reset_same}
 use Rattle.device_server.proofs.SettledLemmas.{same_settled}
 use Rattle.judgement.specs.declared.reply.Reply.{Reply}
 use Rattle.logical_unit.specs.Answers.{count_at, own_number}
-use Rattle.logical_unit.specs.Move.{numbers_of, IsSameUnit}
+use Rattle.logical_unit.specs.Move.{numbers_after, numbers_of, IsSameUnit}
 use Rattle.logical_unit.specs.Route.{named}
 use Rattle.logical_unit.specs.Step.{Executes, LosesAs, loses, resets, IsLost, IsReset, number_or_0}
 use Rattle.logical_unit.specs.UnitView.{UnitView, last_number}
 use Rattle.logical_unit.proofs.History.{executes_stays}
-use Rattle.logical_unit.proofs.NumbersOf.{none_more, one_more}
-use Rattle.logical_unit.proofs.Recorded.{executed, NoneOrOne}
+use Rattle.logical_unit.proofs.NumbersOf.{more_of}
+use Rattle.logical_unit.proofs.Recorded.{executed, SomeMore}
 use Rattle.kept_unit.specs.Keeping.{IsKept}
 
 -- a unit's own number is at no other unit
@@ -158,14 +158,28 @@ count_single k n = grind (arith, nat_tests)
 count_apart : (k l n : ℕ) → k ≢ l → count_at k ((l, n) ∷ []) ≡ 0
 count_apart k l n apart = grind (arith, nat_tests)
 
-pub count_own : (k : ℕ) (u v : UnitView) → NoneOrOne u v → u.state.lun ≡ k → last_number v ≡ last_number u + count_at k (numbers_of u v)
-count_own k u v (inl same) is = same ∙ rw (none_more u v same) (omega arith)
-count_own k u v (inr more) is =
-    more ∙ ap (λ c. last_number u + c) (sym (ap (count_at k) (one_more u v more ∙ ap (λ (l : ℕ). (l, last_number u + 1) ∷ []) is) ∙ count_single k (last_number u + 1)))
-
-pub count_other : (k : ℕ) (u v : UnitView) → NoneOrOne u v → k ≢ u.state.lun → count_at k (numbers_of u v) ≡ 0
-count_other k u v (inl same) apart = ap (count_at k) (none_more u v same)
-count_other k u v (inr more) apart = ap (count_at k) (one_more u v more) ∙ count_apart k u.state.lun (last_number u + 1) apart
-
 pub count_both : (k : ℕ) (xs ys : List (ℕ × ℕ)) → count_at k (xs ++ ys) ≡ count_at k xs + count_at k ys
 count_both k xs ys = sum_by-append (λ (p : ℕ × ℕ). cond (nat_eq p.0 k) 1 0) xs ys
+
+after_own : (k last count : ℕ) → count_at k (numbers_after k last count) ≡ count
+after_own k last zero = refl
+after_own k last (suc count) =
+    let first = count_single k (last + 1) in
+    let rest = after_own k (last + 1) count in
+    let all = count_both k ((k, last + 1) ∷ []) (numbers_after k (last + 1) count) in
+    omega (arith, first, rest, all)
+
+after_other : (k lun last count : ℕ) → k ≢ lun → count_at k (numbers_after lun last count) ≡ 0
+after_other k lun last zero apart = refl
+after_other k lun last (suc count) apart =
+    let first = count_apart k lun (last + 1) apart in
+    let rest = after_other k lun (last + 1) count apart in
+    let all = count_both k ((lun, last + 1) ∷ []) (numbers_after lun (last + 1) count) in
+    omega (arith, first, rest, all)
+
+pub count_own : (k : ℕ) (u v : UnitView) → SomeMore u v → u.state.lun ≡ k → last_number v ≡ last_number u + count_at k (numbers_of u v)
+count_own k u v more is =
+    more.1 ∙ ap (λ c. last_number u + c) (sym (ap (count_at k) (more_of u v more.0 more.1 ∙ ap (λ (l : ℕ). numbers_after l (last_number u) more.0) is) ∙ after_own k (last_number u) more.0))
+
+pub count_other : (k : ℕ) (u v : UnitView) → SomeMore u v → k ≢ u.state.lun → count_at k (numbers_of u v) ≡ 0
+count_other k u v more apart = ap (count_at k) (more_of u v more.0 more.1) ∙ after_other k u.state.lun (last_number u) more.0 apart

@@ -1,9 +1,9 @@
--- The numbers of a move, by unit: of several units, of which each has one record more or none.
+-- The numbers of a move, by unit: of several units, of which each has so many records more.
 use Rattle.std.proofs.Common.{◌≡◌, ◌≢◌, ℕ, ◌+◌, ◌<◌, List, ◌++◌, ap, ◌∙◌, arith}
 use Rattle.logical_unit.specs.Move.{numbers_of}
 use Rattle.logical_unit.specs.UnitView.{UnitView, last_number}
 use Rattle.logical_unit.specs.Answers.{count_at}
-use Rattle.logical_unit.proofs.Recorded.{NoneOrOne}
+use Rattle.logical_unit.proofs.Recorded.{SomeMore}
 use Rattle.kept_unit.proofs.Counting.{count_own, count_other, count_both}
 
 pub record OneCounts (c d v e : UnitView) (lun : ℕ) (items : List (ℕ × ℕ)) : Type 0 where
@@ -11,7 +11,7 @@ pub record OneCounts (c d v e : UnitView) (lun : ℕ) (items : List (ℕ × ℕ)
   pub drive : last_number e ≡ last_number d + count_at lun items
   pub only : (k : ℕ) → k ≢ 0 → k ≢ lun → count_at k items ≡ 0
 
-pub one_counts : (c d v e : UnitView) (lun : ℕ) (items : List (ℕ × ℕ)) → items ≡ numbers_of c v ++ numbers_of d e → c.state.lun ≡ 0 → d.state.lun ≡ lun → 0 < lun → NoneOrOne c v → NoneOrOne d e → OneCounts c d v e lun items
+pub one_counts : (c d v e : UnitView) (lun : ℕ) (items : List (ℕ × ℕ)) → items ≡ numbers_of c v ++ numbers_of d e → c.state.lun ≡ 0 → d.state.lun ≡ lun → 0 < lun → SomeMore c v → SomeMore d e → OneCounts c d v e lun items
 one_counts c d v e lun items is at_c at_d drive changer moved =
     let split = λ (k : ℕ). ap (count_at k) is ∙ count_both k (numbers_of c v) (numbers_of d e) in
     let own_c = count_own 0 c v changer at_c in
@@ -36,7 +36,7 @@ pub record TwoCounts (c l h v m i : UnitView) (lower upper : ℕ) (items : List 
   pub only : (k : ℕ) → k ≢ 0 → k ≢ lower → k ≢ upper → count_at k items ≡ 0
 
 pub two_counts : (c l h v m i : UnitView) (low high : ℕ) (items : List (ℕ × ℕ)) → items ≡ numbers_of c v ++ numbers_of l m ++ numbers_of h i → c.state.lun ≡ 0 → l.state.lun ≡ low → h.state.lun ≡ high → 0 < low → low < high
-    → NoneOrOne c v → NoneOrOne l m → NoneOrOne h i → TwoCounts c l h v m i low high items
+    → SomeMore c v → SomeMore l m → SomeMore h i → TwoCounts c l h v m i low high items
 two_counts c l h v m i low high items is at_c at_l at_h drive above changer lower upper =
     let split = λ (k : ℕ). ap (count_at k) is ∙ count_both k (numbers_of c v ++ numbers_of l m) (numbers_of h i) ∙ ap (λ n. n + count_at k (numbers_of h i)) (count_both k (numbers_of c v) (numbers_of l m)) in
     let own_c = count_own 0 c v changer at_c in

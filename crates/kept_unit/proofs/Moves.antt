@@ -1,4 +1,4 @@
--- A MOVE MEDIUM at kept units: they stay the same, with the numbers that its call tells.
+-- A MOVE MEDIUM or an EXCHANGE MEDIUM at kept units: they stay the same, with the numbers that its call tells.
 use Rattle.std.proofs.Common.{◌≡◌, ℕ, ◌<◌, List, [], ◌∷◌, ◌++◌}
 use Rattle.scsi_nexus.specs.declared.nexus.Nexus.{Nexus}
 use Rattle.device_server.specs.View.{commands_of, drives_of}
@@ -9,6 +9,7 @@ use Rattle.logical_unit.specs.Route.{named}
 use Rattle.logical_unit.specs.UnitView.{UnitView}
 use Rattle.logical_unit.proofs.SameUnits.{one_same, two_same}
 use Rattle.logical_unit.proofs.Carried.{one_settled, two_settled, one_told, two_told}
+use Rattle.logical_unit.proofs.Recorded.{some_more}
 use Rattle.kept_unit.proofs.Counts.{OneCounts, one_counts, TwoCounts, two_counts}
 
 -- with one drive
@@ -23,7 +24,7 @@ pub one_move : (c d v e : UnitView) (lun : ℕ) (n : Nexus) (cdb bytes : List �
 one_move c d v e lun n cdb bytes r items names moves numbers at_c at_d above =
     let told = one_told c d v e (act_of (commands_of c.device) cdb bytes) r items (one_settled c d v e n cdb bytes r lun [] names moves) numbers in
     let same = one_same c d v e n cdb bytes r lun [] names moves in
-    record { changer = same.0; drive = same.1; counts = one_counts c d v e lun items numbers at_c at_d above told.changer told.drive }
+    record { changer = same.0; drive = same.1; counts = one_counts c d v e lun items numbers at_c at_d above (some_more c v told.changer) told.drive }
 
 -- with two
 pub record TwoMove (c v : UnitView) (ds es : TwoDrives) (lower upper : ℕ) (items : List (ℕ × ℕ)) : Type 0 where
@@ -42,5 +43,6 @@ two_move c v ds es lower upper n cdb bytes r items names moves numbers at_c at_l
       changer = same.0;
       low = same.1;
       high = same.2;
-      counts = two_counts c ds.low ds.high v es.low es.high lower upper items numbers at_c at_l at_h above over told.changer told.low told.high;
+      counts = two_counts c ds.low ds.high v es.low es.high lower upper items numbers at_c at_l at_h above over (some_more c v told.changer)
+          (some_more ds.low es.low told.low) (some_more ds.high es.high told.high);
     }

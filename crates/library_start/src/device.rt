@@ -140,6 +140,13 @@ impl DeviceServer for Device {
         }
     }
 
+    fn note_exchange(&mut self, source: u16, first: u16, second: u16) {
+        match self {
+            Device::Changer(changer) => changer.note_exchange(source, first, second),
+            Device::Tape(drive) => drive.note_exchange(source, first, second),
+        }
+    }
+
     fn mark(&mut self, place: u16, tag: Option<VolumeTag>) -> Result<(), BadPlace> {
         match self {
             Device::Changer(changer) => changer.mark(place, tag),

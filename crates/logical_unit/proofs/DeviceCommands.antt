@@ -84,6 +84,7 @@ request_plain (request.Host (host_request.ModeSense10 dbd pc page subpage l)) by
 request_plain (request.Host (host_request.ReportSupportedOperationCodes rctd options code action l)) bytes = record { tells = λ k n told. refl; listless = refl; own = refl }
 request_plain (request.Host (host_request.ReportSupportedTaskManagementFunctions repd l)) bytes = record { tells = λ k n told. refl; listless = refl; own = refl }
 request_plain (request.Host (host_request.PositionToElement transport destination invert)) bytes = record { tells = λ k n told. refl; listless = refl; own = refl }
+request_plain (request.Host (host_request.ExchangeMedium transport source first second inv1 inv2)) bytes = record { tells = λ k n told. refl; listless = refl; own = refl }
 request_plain (request.Host (host_request.InitializeElementStatusWithRange fast range start count)) bytes = record { tells = λ k n told. refl; listless = refl; own = refl }
 
 fault_plain : (fault : CdbFault) → is_of_decoding (condition_of_fault fault) ≡ true

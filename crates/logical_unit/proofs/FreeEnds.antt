@@ -6,14 +6,20 @@ use Rattle.tape_medium.specs.declared.volume.VolumeTag.{VolumeTag}
 use Rattle.tape_medium.specs.declared.elements.MapFault.{MapFault}
 use Rattle.tape_medium.specs.declared.elements.MapFault.TheVariants.{BadAddress}
 use Rattle.tape_medium.specs.Elements.{Elements, Element, Transport, DataTransfer, ImportExport, Storage, Nowhere, first_data_transfer, first_import_export, first_storage, is_among, element_at, tag_of, tag_held, held_in, taken, put, refusal, move_refusal, takes, puts}
+use Rattle.element_map.specs.Exchange.{has_drive, exchange_refusal}
+use Rattle.scsi_cdb.specs.declared.request.Request.{Request}
 use Rattle.device_server.specs.View as device
 use Rattle.device_server.specs.HostChanger.{ChangerView}
-use Rattle.device_server.specs.View.{DeviceView, Changer}
+use Rattle.device_server.specs.View.{DeviceView, Changer, drives_of}
 use Rattle.device_server.specs.declared.fault.PutFault.{PutFault}
 use Rattle.device_server.specs.declared.fault.TakeFault.{TakeFault}
-use Rattle.logical_unit.specs.MoveJudgement.{HasWays}
+use Rattle.logical_unit.specs.MoveJudgement.{HasRouteWays, HasWays}
 use Rattle.logical_unit.specs.Route.{drive_at}
+use Rattle.logical_unit.specs.declared.route.Errand.{Errand}
+use Rattle.logical_unit.specs.declared.route.Errand.TheVariants as errand
 use Rattle.logical_unit.specs.declared.route.Route.{Route}
+use Rattle.logical_unit.proofs.ExchangeWays.{exchange_ways}
+use Rattle.logical_unit.proofs.NamedDrives.{Asks}
 
 -- what the map says where it refuses nothing: there is a volume at one end, and none at the other
 pub record IsFree (from to : Option (Option VolumeTag)) : Type 0 where
@@ -82,7 +88,7 @@ takes_ok c (Ok it) h = refl
 takes_ok c (Err fault) h = absurd cc
 
 ways_by : (transport : Bool) (c : ChangerView) (r : Route) → cond transport (refusal (tag_held c.elements (element_at c.elements r.source)) (tag_held c.elements (element_at c.elements r.destination))) (Some BadAddress) ≡ None
-    → r.from ≡ drive_at (length c.elements.data_transfer) r.source → r.to ≡ drive_at (length c.elements.data_transfer) r.destination → HasWays (Changer c) r
+    → r.from ≡ drive_at (length c.elements.data_transfer) r.source → r.to ≡ drive_at (length c.elements.data_transfer) r.destination → HasRouteWays (Changer c) r
 ways_by false c r h from to = absurd cc
 ways_by true c r h from to =
     let e = c.elements in
@@ -92,6 +98,16 @@ ways_by true c r h from to =
       destination = λ none volume. puts_ok c (puts e r.destination volume) (goes_in e (element_at e r.destination) volume free.destination (λ l. no_drive e r.destination l (sym to ∙ none)));
     }
 
-pub has_ways : (c : ChangerView) (transport : ℕ) (r : Route) → move_refusal c.elements transport r.source r.destination ≡ None
-    → r.from ≡ drive_at (length c.elements.data_transfer) r.source → r.to ≡ drive_at (length c.elements.data_transfer) r.destination → HasWays (Changer c) r
-has_ways c transport r h from to = ways_by (transport == 0) c r h from to
+pub route_ways : (c : ChangerView) (transport : ℕ) (r : Route) → move_refusal c.elements transport r.source r.destination ≡ None
+    → r.from ≡ drive_at (length c.elements.data_transfer) r.source → r.to ≡ drive_at (length c.elements.data_transfer) r.destination → HasRouteWays (Changer c) r
+route_ways c transport r h from to = ways_by (transport == 0) c r h from to
+
+-- what the map and the marks say of what is left to the drives
+abbrev pub IsForDrives : ChangerView → Errand → (transport : ℕ) → Type 0
+IsForDrives c (errand.Move r) transport = move_refusal c.elements transport r.source r.destination ≡ None
+IsForDrives c (errand.Exchange x) transport =
+    (exchange_refusal c.elements transport x.source x.first x.second ≡ None) × (has_drive c.elements x.source x.first x.second ≡ true)
+
+pub has_ways : (c : ChangerView) (q : Request) (e : Errand) (transport : ℕ) → Asks (drives_of (Changer c)) q e → IsForDrives c e transport → HasWays (Changer c) e
+has_ways c q (errand.Move r) transport a free = route_ways c transport r free a.from a.to
+has_ways c q (errand.Exchange x) transport a free = exchange_ways c transport x free.0 free.1 a.from a.between a.to

@@ -1,5 +1,5 @@
 -- What a move is made of: a volume that leaves a drive, or comes in, and one that the changer takes up or puts down.
-use Rattle.std.proofs.Common.{◌≡◌, Bool, true, false, Option, Some, None, Result, Ok, Err, refl, sym, ap, ◌∙◌, subst}
+use Rattle.std.proofs.Common.{◌≡◌, ℕ, Bool, true, false, Option, Some, None, Result, Ok, Err, refl, sym, ap, ◌∙◌, subst}
 use Rattle.std.specs.Prelude.{cond}
 use Rattle.scsi_cdb.specs.declared.kind.Kind.{Kind}
 use Rattle.scsi_cdb.specs.declared.kind.Kind.TheVariants as kind
@@ -8,18 +8,20 @@ use Rattle.scsi_sense.specs.declared.condition.Condition.TheVariants.{InternalTa
 use Rattle.tape_medium.specs.declared.volume.Volume.{Volume}
 use Rattle.tape_medium.specs.declared.volume.VolumeTag.{VolumeTag}
 use Rattle.audit_log.specs.declared.act.Act.TheVariants.{MediumIn, MediumOut}
-use Rattle.device_server.specs.View.{DeviceView, kind_of, held_in, taken, put, journeyed}
+use Rattle.device_server.specs.View.{DeviceView, kind_of, held_in, taken, put}
 use Rattle.device_server.specs.declared.fault.PutFault.{PutFault}
 use Rattle.device_server.specs.declared.fault.TakeFault.{TakeFault}
 use Rattle.judgement.specs.UnitState.{is_prevented, with_medium}
 use Rattle.logical_unit.specs.declared.medium_fault.MediumFault.{MediumFault}
 use Rattle.logical_unit.specs.declared.medium_fault.MediumFault.TheVariants.{NotADrive, Prevented}
+use Rattle.logical_unit.specs.declared.route.Errand.{Errand}
+use Rattle.logical_unit.specs.declared.route.ExchangeRoute.{ExchangeRoute}
 use Rattle.logical_unit.specs.declared.route.Route.{Route}
 use Rattle.logical_unit.specs.Medium.{taken_as, taken_out, put_as, put_in}
 use Rattle.logical_unit.specs.declared.move_judgement.MoveStop.{MoveStop}
 use Rattle.logical_unit.specs.declared.move_judgement.MoveStop.TheVariants.{Refused, Busy}
 use Rattle.logical_unit.specs.MoveJudgement.{StopsMove}
-use Rattle.logical_unit.specs.Move.{condition_of_medium, names_held, given, received, noting, unloaded, loaded, passed, on_its_way}
+use Rattle.logical_unit.specs.Move.{condition_of_medium, names_held, given, received, noting, unloaded, loaded, passed, removed, placed, second_placed, both_placed, first_removed, exchanged_by, errand_noted, on_its_way}
 use Rattle.logical_unit.specs.Step.{with_event}
 use Rattle.logical_unit.specs.UnitView.{UnitView, UnitWithRoom, with_device}
 
@@ -224,38 +226,176 @@ passed_given changer giver taker r after e f (Err condition) there h = absurd cc
 pub is_passed : (changer : DeviceView) (giver taker : UnitView) (r : Route) (after : DeviceView) (e f : UnitView) → passed changer giver taker r ≡ Ok (after, e, f) → IsPassed changer giver taker r after e f
 is_passed changer giver taker r after e f h = passed_given changer giver taker r after e f (given (held_in changer r.source) giver) refl h
 
--- THE JOURNEY. What was carried, and the changer before it noted from where
-pub record Came {A : Type 0} (r : Route) (carried : Result (DeviceView × A) Condition) (device : DeviceView) (after : A) : Type 0 where
+-- AN EXCHANGE. A volume that its drive gives, or that the changer takes out
+pub record IsRemovedByDrive (changer : DeviceView) (d : UnitView) (address : ℕ) (v : Volume) (after : DeviceView) (e : UnitView) : Type 0 where
+  pub gives : IsGiven (held_in changer address) d e v
+  pub marks : after ≡ noting changer address None
+
+pub record IsRemovedByChanger (changer : DeviceView) (d : UnitView) (address : ℕ) (v : Volume) (after : DeviceView) (e : UnitView) : Type 0 where
+  pub takes : taken changer address ≡ Ok (v, after)
+  pub same : e ≡ d
+
+abbrev pub IsRemoved : (of_drive : Bool) → DeviceView → UnitView → (address : ℕ) → Volume → DeviceView → UnitView → Type 0
+IsRemoved true changer d address v after e = IsRemovedByDrive changer d address v after e
+IsRemoved false changer d address v after e = IsRemovedByChanger changer d address v after e
+
+abbrev Removing : Type 0
+Removing = Volume × DeviceView × UnitView
+
+removed_given : (changer : DeviceView) (d : UnitView) (address : ℕ) (v : Volume) (after : DeviceView) (e : UnitView) (o : Result (Volume × UnitView) Condition)
+    → given (held_in changer address) d ≡ o
+    → elim o as (λ _. Result Removing Condition) [ Ok it ↦ Ok (it.0, noting changer address None, it.1) | Err condition ↦ Err condition ] ≡ Ok (v, after, e)
+    → IsRemovedByDrive changer d address v after e
+removed_given changer d address v after e (Ok it) there h =
+    let is : ◌≡◌ {A = Removing} (it.0, noting changer address None, it.1) (v, after, e) = cc in
+    let given_so : it ≡ (v, e) = ap (λ (p : Removing). (p.0, p.2)) is in
+    record {
+      gives = is_given (held_in changer address) d e v (there ∙ ap (λ (p : Volume × UnitView). Ok p) given_so);
+      marks = sym (ap (λ (p : Removing). p.1) is);
+    }
+removed_given changer d address v after e (Err condition) there h = absurd cc
+
+removed_taken : (changer : DeviceView) (d : UnitView) (address : ℕ) (v : Volume) (after : DeviceView) (e : UnitView) (o : Result (Volume × DeviceView) TakeFault)
+    → taken changer address ≡ o
+    → elim o as (λ _. Result Removing Condition) [ Ok it ↦ Ok (it.0, it.1, d) | Err fault ↦ Err InternalTargetFailure ] ≡ Ok (v, after, e)
+    → IsRemovedByChanger changer d address v after e
+removed_taken changer d address v after e (Ok it) there h =
+    let is : ◌≡◌ {A = Removing} (it.0, it.1, d) (v, after, e) = cc in
+    record {
+      takes = there ∙ ap (λ (p : Removing). Ok (p.0, p.1)) is;
+      same = sym (ap (λ (p : Removing). p.2) is);
+    }
+removed_taken changer d address v after e (Err fault) there h = absurd cc
+
+is_removed : (of_drive : Bool) (changer : DeviceView) (d : UnitView) (address : ℕ) (v : Volume) (after : DeviceView) (e : UnitView)
+    → removed changer d of_drive address ≡ Ok (v, after, e) → IsRemoved of_drive changer d address v after e
+is_removed true changer d address v after e h = removed_given changer d address v after e (given (held_in changer address) d) refl h
+is_removed false changer d address v after e h = removed_taken changer d address v after e (taken changer address) refl h
+
+-- and one that its drive takes, or that the changer puts in
+pub record IsPlacedInDrive (changer : DeviceView) (d : UnitView) (address : ℕ) (v : Volume) (after : DeviceView) (e : UnitView) : Type 0 where
+  pub comes : put_in d v ≡ Ok e
+  pub marks : after ≡ noting changer address (Some v.tag)
+
+pub record IsPlacedInChanger (changer : DeviceView) (d : UnitView) (address : ℕ) (v : Volume) (after : DeviceView) (e : UnitView) : Type 0 where
+  pub puts : put changer address v ≡ Ok after
+  pub same : e ≡ d
+
+abbrev pub IsPlaced : (of_drive : Bool) → DeviceView → UnitView → (address : ℕ) → Volume → DeviceView → UnitView → Type 0
+IsPlaced true changer d address v after e = IsPlacedInDrive changer d address v after e
+IsPlaced false changer d address v after e = IsPlacedInChanger changer d address v after e
+
+placed_received : (changer : DeviceView) (d : UnitView) (address : ℕ) (v : Volume) (after : DeviceView) (e : UnitView) (o : Result UnitView Condition)
+    → received d v ≡ o
+    → elim o as (λ _. Result (DeviceView × UnitView) Condition) [ Ok f ↦ Ok (noting changer address (Some v.tag), f) | Err condition ↦ Err condition ] ≡ Ok (after, e)
+    → IsPlacedInDrive changer d address v after e
+placed_received changer d address v after e (Ok f) there h =
+    let is : ◌≡◌ {A = DeviceView × UnitView} (noting changer address (Some v.tag), f) (after, e) = cc in
+    record {
+      comes = is_received d e v (there ∙ ap unit_received (ap (λ (p : DeviceView × UnitView). p.1) is));
+      marks = sym (ap (λ (p : DeviceView × UnitView). p.0) is);
+    }
+placed_received changer d address v after e (Err condition) there h = absurd cc
+
+placed_put : (changer : DeviceView) (d : UnitView) (address : ℕ) (v : Volume) (after : DeviceView) (e : UnitView) (o : Result DeviceView PutFault)
+    → put changer address v ≡ o
+    → elim o as (λ _. Result (DeviceView × UnitView) Condition) [ Ok f ↦ Ok (f, d) | Err fault ↦ Err InternalTargetFailure ] ≡ Ok (after, e)
+    → IsPlacedInChanger changer d address v after e
+placed_put changer d address v after e (Ok f) there h =
+    let is : ◌≡◌ {A = DeviceView × UnitView} (f, d) (after, e) = cc in
+    record {
+      puts = there ∙ ap (λ (p : DeviceView × UnitView). Ok p.0) is;
+      same = sym (ap (λ (p : DeviceView × UnitView). p.1) is);
+    }
+placed_put changer d address v after e (Err fault) there h = absurd cc
+
+is_placed : (of_drive : Bool) (changer : DeviceView) (d : UnitView) (address : ℕ) (v : Volume) (after : DeviceView) (e : UnitView)
+    → placed changer d of_drive address v ≡ Ok (after, e) → IsPlaced of_drive changer d address v after e
+is_placed true changer d address v after e h = placed_received changer d address v after e (received d v) refl h
+is_placed false changer d address v after e h = placed_put changer d address v after e (put changer address v) refl h
+
+-- the steps of both volumes
+pub record IsExchangedBy (changer : DeviceView) (d : UnitView) (x : ExchangeRoute) (from between to : Bool) (after : DeviceView) (e : UnitView) : Type 0 where
+  pub one : Volume
+  pub other : Volume
+  pub without_one : DeviceView
+  pub drive_one : UnitView
+  pub without_both : DeviceView
+  pub drive_both : UnitView
+  pub with_one : DeviceView
+  pub drive_with : UnitView
+  pub source : IsRemoved from changer d x.source one without_one drive_one
+  pub first : IsRemoved between without_one drive_one x.first other without_both drive_both
+  pub places : IsPlaced between without_both drive_both x.first one with_one drive_with
+  pub second : IsPlaced to with_one drive_with x.second other after e
+
+module _ (changer : DeviceView) (d : UnitView) (x : ExchangeRoute) (from between to : Bool) (after : DeviceView) (e : UnitView) where
+  second_is : (one other : Volume) (c1 c2 : DeviceView) (d1 d2 : UnitView) (o : Result (DeviceView × UnitView) Condition)
+      → IsRemoved from changer d x.source one c1 d1 → IsRemoved between c1 d1 x.first other c2 d2 → placed c2 d2 between x.first one ≡ o
+      → second_placed x.second to other o ≡ Ok (after, e) → IsExchangedBy changer d x from between to after e
+  second_is one other c1 c2 d1 d2 (Err condition) a b c h = absurd cc
+  second_is one other c1 c2 d1 d2 (Ok it) a b c h = record {
+    one = one;
+    other = other;
+    without_one = c1;
+    drive_one = d1;
+    without_both = c2;
+    drive_both = d2;
+    with_one = it.0;
+    drive_with = it.1;
+    source = a;
+    first = b;
+    places = is_placed between c2 d2 x.first one it.0 it.1 c;
+    second = is_placed to it.0 it.1 x.second other after e h;
+  }
+
+  both_is : (one : Volume) (c1 : DeviceView) (d1 : UnitView) (o : Result Removing Condition)
+      → IsRemoved from changer d x.source one c1 d1 → removed c1 d1 between x.first ≡ o → both_placed x between to one o ≡ Ok (after, e)
+      → IsExchangedBy changer d x from between to after e
+  both_is one c1 d1 (Err condition) a b h = absurd cc
+  both_is one c1 d1 (Ok it) a b h =
+      second_is one it.0 c1 it.1 d1 it.2 (placed it.1 it.2 between x.first one) a (is_removed between c1 d1 x.first it.0 it.1 it.2 b) refl h
+
+  first_is : (o : Result Removing Condition) → removed changer d from x.source ≡ o → first_removed x between to o ≡ Ok (after, e)
+      → IsExchangedBy changer d x from between to after e
+  first_is (Err condition) a h = absurd cc
+  first_is (Ok it) a h = both_is it.0 it.1 it.2 (removed it.1 it.2 between x.first) (is_removed from changer d x.source it.0 it.1 it.2 a) refl h
+
+  pub is_exchanged : exchanged_by changer d x from between to ≡ Ok (after, e) → IsExchangedBy changer d x from between to after e
+  is_exchanged h = first_is (removed changer d from x.source) refl h
+
+-- THE WAY. What was carried, and the changer before it noted from where
+pub record Came {A : Type 0} (errand : Errand) (carried : Result (DeviceView × A) Condition) (device : DeviceView) (after : A) : Type 0 where
   pub mid : DeviceView
   pub carries : carried ≡ Ok (mid, after)
-  pub notes : device ≡ journeyed mid r.source r.destination
+  pub notes : device ≡ errand_noted errand mid
 
-pub came : {A : Type 0} (r : Route) (carried : Result (DeviceView × A) Condition) (device : DeviceView) (after : A) → on_its_way r carried ≡ Ok (device, after) → Came r carried device after
-came {A} r (Ok it) device after h =
-    let is : ◌≡◌ {A = DeviceView × A} (journeyed it.0 r.source r.destination, it.1) (device, after) = cc in
+pub came : {A : Type 0} (errand : Errand) (carried : Result (DeviceView × A) Condition) (device : DeviceView) (after : A) → on_its_way errand carried ≡ Ok (device, after) → Came errand carried device after
+came {A} errand (Ok it) device after h =
+    let is : ◌≡◌ {A = DeviceView × A} (errand_noted errand it.0, it.1) (device, after) = cc in
     record {
       mid = it.0;
       carries = ap (λ (x : A). Ok (it.0, x)) (ap (λ (p : DeviceView × A). p.1) is);
       notes = sym (ap (λ (p : DeviceView × A). p.0) is);
     }
-came {A} r (Err condition) device after h = absurd cc
+came {A} errand (Err condition) device after h = absurd cc
 
 -- and why nothing is carried is no other reason then
-pub stops_on_its_way : {A : Type 0} (r : Route) (carried : Result (DeviceView × A) Condition) (Lacks : Type 0) (stop : MoveStop)
-    → StopsMove carried Lacks stop → StopsMove (on_its_way r carried) Lacks stop
-stops_on_its_way r (Ok it) Lacks (Refused condition) stops = absurd cc
-stops_on_its_way r (Err reason) Lacks (Refused condition) stops = stops
-stops_on_its_way r (Ok it) Lacks Busy stops = (refl, stops.1)
-stops_on_its_way r (Err reason) Lacks Busy stops = let no = stops.0 in absurd cc
+pub stops_on_its_way : {A : Type 0} (errand : Errand) (carried : Result (DeviceView × A) Condition) (Lacks : Type 0) (stop : MoveStop)
+    → StopsMove carried Lacks stop → StopsMove (on_its_way errand carried) Lacks stop
+stops_on_its_way errand (Ok it) Lacks (Refused condition) stops = absurd cc
+stops_on_its_way errand (Err reason) Lacks (Refused condition) stops = stops
+stops_on_its_way errand (Ok it) Lacks Busy stops = (refl, stops.1)
+stops_on_its_way errand (Err reason) Lacks Busy stops = let no = stops.0 in absurd cc
 
 -- a unit whose device noted the way of what was carried
 abbrev pub carried_at : {A : Type 0} → A → UnitWithRoom → Result (DeviceView × A) Condition
 carried_at after x = Ok (x.unit.device, after)
 
-pub carried_on : {A : Type 0} (r : Route) (carried : Result (DeviceView × A) Condition) (mid new : UnitWithRoom) (after : A)
-    → carried ≡ Ok (mid.unit.device, after) → new ≡ with_device mid (journeyed mid.unit.device r.source r.destination)
-    → on_its_way r carried ≡ Ok (new.unit.device, after)
-carried_on r carried mid new after carries noted = ap (on_its_way r) carries ∙ ap (carried_at after) (sym noted)
+pub carried_on : {A : Type 0} (errand : Errand) (carried : Result (DeviceView × A) Condition) (mid new : UnitWithRoom) (after : A)
+    → carried ≡ Ok (mid.unit.device, after) → new ≡ with_device mid (errand_noted errand mid.unit.device)
+    → on_its_way errand carried ≡ Ok (new.unit.device, after)
+carried_on errand carried mid new after carries noted = ap (on_its_way errand) carries ∙ ap (carried_at after) (sym noted)
 
 pub changer_after : (old mid new : UnitWithRoom) (device : DeviceView) → mid ≡ with_device old mid.unit.device → new ≡ with_device mid device
     → new ≡ with_device old new.unit.device

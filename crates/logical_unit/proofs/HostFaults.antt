@@ -158,6 +158,7 @@ command_fits k (host.ModeSense10 dbd pc page subpage l) bytes = mode_sense_fits 
 command_fits k (host.ReportSupportedOperationCodes rctd options code action l) bytes = codes_fit k rctd (options_at options) code action
 command_fits k (host.ReportSupportedTaskManagementFunctions repd l) bytes = tt
 command_fits k (host.PositionToElement transport destination invert) bytes = where_fits class.PositionToElement invert refl
+command_fits k (host.ExchangeMedium transport source first second inv1 inv2) bytes = where_fits class.ExchangeMedium (inv1 || inv2) refl
 command_fits k (host.InitializeElementStatusWithRange fast range start count) bytes = tt
 
 -- READ ELEMENT STATUS has a class of its own with CURDATA

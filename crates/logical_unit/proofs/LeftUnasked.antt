@@ -2,6 +2,8 @@
 use Rattle.std.proofs.Common.{◌≡◌, ℕ, Bool, true, false, List, Option, Some, None, Result, Ok, Err, refl, sym, ap, ◌∙◌, subst}
 use Rattle.std.specs.Prelude.{◌&&◌, is_none}
 use Rattle.scsi_cdb.specs.declared.kind.Kind.TheVariants as kind
+use Rattle.scsi_cdb.specs.declared.host_request.HostRequest.TheVariants as host
+use Rattle.scsi_cdb.specs.declared.request.Request.{Request}
 use Rattle.scsi_cdb.specs.declared.request.Request.TheVariants as request
 use Rattle.scsi_nexus.specs.declared.nexus.Nexus.{Nexus}
 use Rattle.scsi_sense.specs.declared.condition.Condition.{Condition}
@@ -11,10 +13,10 @@ use Rattle.unit_attention.specs.declared.kind.Kind.{Kind}
 use Rattle.unit_attention.specs.Queues.{first_other_of}
 use Rattle.permit_tables.specs.declared.cell.Cell.{Cell}
 use Rattle.pr_core.specs.declared.verdict.Verdict.{Verdict}
-use Rattle.device_server.specs.Failures.{is_failure, is_for_drives}
+use Rattle.device_server.specs.Failures.{is_for_drives}
 use Rattle.device_server.specs.HostChanger.{ChangerView}
-use Rattle.device_server.specs.View.{DeviceView, Drive, Changer, kind_of, performed}
-use Rattle.device_server.proofs.FailureLemmas.{changers_fail_for_drives}
+use Rattle.device_server.specs.View.{DeviceView, Drive, Changer, kind_of, drives_of}
+use Rattle.device_server.specs.Volumes.{is_move}
 use Rattle.judgement.specs.declared.command.Command.{Command}
 use Rattle.judgement.specs.declared.command.Command.TheVariants.{Device}
 use Rattle.judgement.specs.declared.decision.Decision.{Decision}
@@ -22,7 +24,7 @@ use Rattle.judgement.specs.declared.reply.Reply.{Reply}
 use Rattle.judgement.specs.Commands.{class_of_command}
 use Rattle.judgement.specs.Decisions.{at_device, in_cell}
 use Rattle.judgement.specs.JudgedUnit.{JudgedUnit}
-use Rattle.judgement.specs.Judge.{at_cell, carried_out, commanded, is_allowed_by, is_carried_out, judged_as, waiting}
+use Rattle.judgement.specs.Judge.{at_cell, carried_out, commanded, is_allowed_by, is_carried_out, judged_as, unloads, waiting}
 use Rattle.judgement.specs.Readings.{verdict_of}
 use Rattle.judgement.specs.Replies.{check}
 use Rattle.judgement.specs.Standing.{EndsBefore, ComesThrough}
@@ -30,7 +32,10 @@ use Rattle.judgement.specs.UnitState.{after_contact}
 use Rattle.judgement.specs.UnitStateView.{UnitStateView}
 use Rattle.logical_unit.specs.Move.{is_left}
 use Rattle.logical_unit.specs.MoveFinding.{leaves, spells_move}
-use Rattle.logical_unit.proofs.LeftToDrives.{GoesOn, inverted_performs, move_performs, left_is_own, left_answer, by_field}
+use Rattle.logical_unit.specs.Route.{errand_in}
+use Rattle.logical_unit.specs.declared.route.Errand.{Errand}
+use Rattle.logical_unit.proofs.LeftToDrives.{GoesOn, left_is_own, own_fails, left_answer, by_field}
+use Rattle.logical_unit.proofs.NamedDrives.{asks}
 
 -- a test that doesn't hold
 is_false : (b : Bool) → (b ≡ true → ⊥) → b ≡ false
@@ -41,10 +46,6 @@ apart : (b : Bool) → b ≡ true → b ≡ false → ⊥
 apart true h i = cc
 apart false h i = cc
 
-left_fails : (o : Option Sense) → is_left o ≡ is_failure o
-left_fails (Some sense) = refl
-left_fails None = refl
-
 -- a command before which nothing stands comes to its own rules
 comes : (u : JudgedUnit) (n : Nexus) (c : Command) → GoesOn u n c → is_carried_out u n c ≡ true
 comes u n c goes =
@@ -53,40 +54,34 @@ comes u n c goes =
     ∙ ap (λ (v : Verdict). is_allowed_by v && clear) goes.allowed
     ∙ ap (λ (o : Option Kind). is_none o) goes.clear
 
--- A MOVE AT A CHANGER, by its own rules
-own_fails : (v : ChangerView) (k : UnitStateView) (n : Nexus) (t s d : ℕ) (i : Bool) (bytes : List ℕ)
-    → is_left (carried_out (record { device = Changer v; state = k }) n (Device (request.MoveMedium t s d i)) bytes).2.sense ≡ is_for_drives
-    v.elements (request.MoveMedium t s d i)
-own_fails v k n t s d true bytes =
-    ap (λ (x : JudgedUnit × Decision × Reply). is_left x.2.sense) (inverted_performs (record { device = Changer v; state = k }) n t s d bytes)
-own_fails v k n t s d false bytes =
-    ap (λ (x : JudgedUnit × Decision × Reply). is_left x.2.sense) (move_performs (record { device = Changer v; state = k }) n t s d bytes)
-    ∙ left_fails (performed (Changer v) (request.MoveMedium t s d false) bytes).1.sense
-    ∙ changers_fail_for_drives v (request.MoveMedium t s d false) bytes
+-- a command that moves volumes is a command of the device
+moves_by : (q : Request) → is_move q ≡ true → unloads q ≡ false
+moves_by (request.MoveMedium t s d i) h = refl
+moves_by (request.Host command) h = refl
+moves_by q h = absurd cc
 
 -- one that is left
-pub record IsLeftUnasked (v : ChangerView) (k : UnitStateView) (n : Nexus) (t s d : ℕ) (i : Bool) : Type 0 where
-  pub comes : is_carried_out (record { device = Changer v; state = k }) n (Device (request.MoveMedium t s d i)) ≡ true
-  pub for_drives : is_for_drives v.elements (request.MoveMedium t s d i) ≡ true
+pub record IsLeftUnasked (v : ChangerView) (k : UnitStateView) (n : Nexus) (q : Request) : Type 0 where
+  pub comes : is_carried_out (record { device = Changer v; state = k }) n (Device q) ≡ true
+  pub for_drives : is_for_drives v q ≡ true
 
-left_unasked : (v : ChangerView) (k : UnitStateView) (n : Nexus) (t s d : ℕ) (i : Bool) (bytes : List ℕ)
-    → is_left (commanded (record { device = Changer v; state = k }) n (Device (request.MoveMedium t s d i)) bytes).2.sense ≡ true →
-    IsLeftUnasked v k n t s d i
-left_unasked v k n t s d i bytes l =
+left_unasked : (v : ChangerView) (k : UnitStateView) (n : Nexus) (q : Request) (bytes : List ℕ) → unloads q ≡ false
+    → is_left (commanded (record { device = Changer v; state = k }) n (Device q) bytes).2.sense ≡ true → IsLeftUnasked v k n q
+left_unasked v k n q bytes no_unload l =
     let u : JudgedUnit = record { device = Changer v; state = k } in
-    let c : Command = Device (request.MoveMedium t s d i) in
+    let c : Command = Device q in
     let own = left_is_own u n c bytes l in
     record {
       comes = comes u n c own.goes_on;
-      for_drives = sym (own_fails v k n t s d i bytes) ∙ subst (λ (x : JudgedUnit × Decision × Reply). is_left x.2.sense ≡ true)
+      for_drives = sym (own_fails v k n q bytes no_unload) ∙ subst (λ (x : JudgedUnit × Decision × Reply). is_left x.2.sense ≡ true)
           own.by_rules l;
     }
 
 -- what ends before its own rules isn't left
 ends_at : (v : ChangerView) (old new : UnitStateView) (n : Nexus) (c : Command) (f : Decision) (reply : Reply) (bytes : List ℕ)
     → spells_move (Ok c) ≡ true → EndsBefore commanded is_carried_out old new n c f reply → is_left reply.sense ≡ false
-ends_at v old new n (Device (request.MoveMedium t s d i)) f reply bytes move h =
-    is_false _ (λ l. apart _ (left_unasked v (after_contact old n) n t s d i bytes
+ends_at v old new n (Device q) f reply bytes move h =
+    is_false _ (λ l. apart _ (left_unasked v (after_contact old n) n q bytes (moves_by q move)
     (ap (λ (x : JudgedUnit × Decision × Reply). is_left x.2.sense) (h.ended (Changer v) bytes) ∙ l)).comes (h.barred (Changer v)))
 ends_at v old new n c f reply bytes move h = absurd cc
 
@@ -103,8 +98,8 @@ answered_at : (v : ChangerView) (k : UnitStateView) (n : Nexus) (c : Command) (a
     (bytes : List ℕ)
     → spells_move (Ok c) ≡ true → leaves (Changer v) c ≡ false → commanded (record { device = Changer v; state = k }) n c bytes ≡
     (after, f, reply) → is_left reply.sense ≡ false
-answered_at v k n (Device (request.MoveMedium t s d i)) after f reply bytes move own h =
-    is_false _ (λ l. apart _ (left_unasked v k n t s d i bytes (ap (λ (x : JudgedUnit × Decision × Reply). is_left x.2.sense) h ∙
+answered_at v k n (Device q) after f reply bytes move own h =
+    is_false _ (λ l. apart _ (left_unasked v k n q bytes (moves_by q move) (ap (λ (x : JudgedUnit × Decision × Reply). is_left x.2.sense) h ∙
     l)).for_drives own)
 answered_at v k n c after f reply bytes move own h = absurd cc
 
@@ -125,11 +120,18 @@ answered_alone (Changer v) k n (Ok c) after f reply bytes changer move own h = a
 abbrev found_left : ChangerView → UnitStateView → Decision → JudgedUnit × Decision × Reply
 found_left v k f = (record { device = Changer v; state = k }, f, check InternalTargetFailure)
 
+asks_some : (drives : ℕ) (q : Request) → is_move q ≡ true → (e : Errand) × (errand_in drives q ≡ Some e)
+asks_some drives (request.MoveMedium t s d i) h = (_, refl)
+asks_some drives (request.Host (host.ExchangeMedium t s f d i j)) h = (_, refl)
+asks_some drives (request.Host command) h = absurd cc
+asks_some drives q h = absurd cc
+
 left_by_map : (v : ChangerView) (k : UnitStateView) (n : Nexus) (c : Command) (at : Cell) (bytes : List ℕ) → spells_move (Ok c) ≡ true → leaves
     (Changer v) c ≡ true
     → at_cell at (carried_out (record { device = Changer v; state = k }) n c bytes) ≡ left_answer v k at
-left_by_map v k n (Device (request.MoveMedium t s d i)) at bytes move left = (by_field v k n at t s d i bytes
-    (own_fails v k n t s d i bytes ∙ left)).answer
+left_by_map v k n (Device q) at bytes move left =
+    let some = asks_some (drives_of (Changer v)) q move in
+    (by_field v k n at q bytes some.0 (asks (drives_of (Changer v)) q some.0 some.1) (own_fails v k n q bytes (moves_by q move) ∙ left)).answer
 left_by_map v k n c at bytes move left = absurd cc
 
 pub left_at : (device : DeviceView) (old new : UnitStateView) (n : Nexus) (s : Result Command Condition) (c : Command) (at : Cell)

@@ -4,6 +4,9 @@ pub mod DeviceCommands
 pub mod FieldFaults
 pub mod HostFaults
 pub mod Legal
+pub mod ExchangeWays
+pub mod TakesAfter
+pub mod ExchangeSteps
 pub mod FreeEnds
 pub mod LeftToDrives
 pub mod LeftUnasked

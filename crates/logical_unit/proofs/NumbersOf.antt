@@ -1,5 +1,5 @@
 -- The numbers of the records that a move leaves.
-use Rattle.std.proofs.Common.{◌≡◌, ℕ, ◌+◌, ◌==◌, List, [], ◌∷◌, ◌++◌, Option, Some, None, Ok, refl, sym, ap, ◌∙◌, inl, inr, arith}
+use Rattle.std.proofs.Common.{◌≡◌, ℕ, ◌+◌, ◌-◌, ◌==◌, List, [], ◌∷◌, ◌++◌, Option, Some, None, Ok, refl, sym, ap, ◌∙◌, inl, inr, arith}
 use Rattle.std.proofs.lemmas.Grind.{common_steps}
 use Rattle.std.proofs.lemmas.List.{append-nil}
 use Rattle.std.specs.Prelude.{◌⊎◌, cond}
@@ -19,7 +19,7 @@ use Rattle.logical_unit.specs.MoveJudgement.{IsPutOff, IsEnded, Finishes}
 use Rattle.logical_unit.specs.declared.move_judgement.MoveStop.{MoveStop}
 use Rattle.logical_unit.specs.declared.move_judgement.MoveStop.TheVariants.{Refused, Busy}
 use Rattle.logical_unit.specs.Medium.{taken_out, put_in}
-use Rattle.logical_unit.specs.Move.{numbers_of, judged_at}
+use Rattle.logical_unit.specs.Move.{numbers_after, numbers_of, judged_at}
 use Rattle.logical_unit.specs.Step.{recorded, record_of, event_of, with_record}
 use Rattle.logical_unit.specs.UnitView.{UnitView, UnitWithRoom, last_number}
 use Rattle.logical_unit.proofs.Halves.{is_out, is_in}
@@ -39,12 +39,17 @@ in_last d e v h =
     let come = is_in d e v h in
     ap last_number come.unit ∙ entry_last d (record { device = come.device; state = with_medium d.state }) (event_of (last_number d + 1) None MediumIn)
 
--- no record more, and one
+-- so many records more, none, and one
+pub more_of : (u v : UnitView) (count : ℕ) → last_number v ≡ last_number u + count → numbers_of u v ≡ numbers_after u.state.lun (last_number u) count
+more_of u v count h =
+    let more : last_number v - last_number u ≡ count = omega (arith, h) in
+    ap (numbers_after u.state.lun (last_number u)) more
+
 pub none_more : (u v : UnitView) → last_number v ≡ last_number u → numbers_of u v ≡ []
-none_more u v h = grind (arith, common_steps)
+none_more u v h = more_of u v 0 (omega (arith, h))
 
 pub one_more : (u v : UnitView) → last_number v ≡ last_number u + 1 → numbers_of u v ≡ (u.state.lun, last_number u + 1) ∷ []
-one_more u v h = grind (arith, common_steps)
+one_more u v h = more_of u v 1 h
 
 -- the number on a receipt
 abbrev pub noted : (lun : ℕ) → Reply → List (ℕ × ℕ)
@@ -92,6 +97,11 @@ numbered lun number = (lun, number) ∷ []
 
 pub drive_noted : (d e : UnitView) (lun number : ℕ) → lun ≡ d.state.lun → number ≡ last_number d + 1 → last_number e ≡ last_number d + 1 → numbered lun number ≡ numbers_of d e
 drive_noted d e lun number p q h = ap (λ l. numbered l number) p ∙ ap (numbered d.state.lun) q ∙ sym (one_more d e h)
+
+-- and all of its numbers
+pub drive_noted_more : (d e : UnitView) (lun last count : ℕ) → lun ≡ d.state.lun → last ≡ last_number d → last_number e ≡ last_number d + count → numbers_after lun last count ≡ numbers_of d e
+drive_noted_more d e lun last count p q h =
+    ap (λ l. numbers_after l last count) p ∙ ap (λ l. numbers_after d.state.lun l count) q ∙ sym (more_of d e count h)
 
 -- the same with two drives
 pub joined_two : (items first a b c p q r : List (ℕ × ℕ)) → first ≡ a ++ b → items ≡ first ++ c → a ≡ p → b ≡ q → c ≡ r → items ≡ p ++ q ++ r

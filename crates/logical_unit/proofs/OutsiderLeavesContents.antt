@@ -19,7 +19,7 @@ use Rattle.device_server.specs.declared.host_changer.HostChanger.{HostChanger}
 use Rattle.device_server.specs.declared.host_drive.HostDrive.{HostDrive}
 use Rattle.device_server.specs.Changer.{changer_step}
 use Rattle.device_server.specs.Drive.{DriveView, on_tape, in_volume, in_bay, drive_step}
-use Rattle.device_server.specs.HostChanger.{ChangerView, changer_command_answer, host_changer_step}
+use Rattle.device_server.specs.HostChanger.{ChangerView, changer_command_step, host_changer_step}
 use Rattle.device_server.specs.HostDrive.{not_ready, host_in_volume, host_in_bay, host_command_step, host_drive_step}
 use Rattle.device_server.specs.View.{DeviceView, Drive, Changer, field_fault, drive_stepped, changer_stepped, stepped, performed}
 
@@ -163,6 +163,7 @@ host_command_quiet ty ro closed d h (host.ModeSense10 dbd pc page subpage l) byt
 host_command_quiet ty ro closed d h (host.ReportSupportedOperationCodes rctd options code action l) bytes lets = record { same = refl; steady = answers_steady l _ }
 host_command_quiet ty ro closed d h (host.ReportSupportedTaskManagementFunctions repd l) bytes lets = record { same = refl; steady = refl }
 host_command_quiet ty ro closed d h (host.PositionToElement transport destination invert) bytes lets = record { same = refl; steady = refl }
+host_command_quiet ty ro closed d h (host.ExchangeMedium transport source first second inv1 inv2) bytes lets = record { same = refl; steady = refl }
 host_command_quiet ty ro closed d h (host.InitializeElementStatusWithRange fast range start count) bytes lets = record { same = refl; steady = refl }
 
 host_drive_quiet : (ty : ResType) (ro : Role) → Shut ty ro → (d : DriveView) (h : HostDrive) (r : Request) (bytes : List ℕ) → d.hosts ≡ Some h → Let ty ro r → Quiet d (host_drive_step d h r bytes)
@@ -173,16 +174,17 @@ host_drive_quiet ty ro s d h (request.LoadUnload hold eot load) bytes is lets = 
 host_drive_quiet ty ro s d h (request.Host command) bytes is lets = host_command_quiet ty ro s.changing d h command bytes lets
 host_drive_quiet ty ro s d h r bytes is lets = host_bay_quiet ty ro s d h d.bay r bytes is refl lets
 
-changer_command_steady : (ty : ResType) (ro : Role) → row_allows Changing ty ro ≡ false → (e : Elements) (c : HostRequest) (bytes : List ℕ) → Let ty ro (request.Host c) → (changer_command_answer e c bytes).told ≡ None
-changer_command_steady ty ro closed e (host.SendDiagnostic code test l) bytes lets = refl
-changer_command_steady ty ro closed e (host.LogSelect pcr sp pc page subpage l) bytes lets = barred _ lets closed
-changer_command_steady ty ro closed e (host.LogSense ppc sp pc page subpage pointer l) bytes lets = answers_steady l _
-changer_command_steady ty ro closed e (host.ModeSelect10 sp l) bytes lets = refl
-changer_command_steady ty ro closed e (host.ModeSense10 dbd pc page subpage l) bytes lets = answers_steady l _
-changer_command_steady ty ro closed e (host.ReportSupportedOperationCodes rctd options code action l) bytes lets = answers_steady l _
-changer_command_steady ty ro closed e (host.ReportSupportedTaskManagementFunctions repd l) bytes lets = refl
-changer_command_steady ty ro closed e (host.PositionToElement transport destination invert) bytes lets = barred _ lets closed
-changer_command_steady ty ro closed e (host.InitializeElementStatusWithRange fast range start count) bytes lets = refl
+changer_command_quiet : (ty : ResType) (ro : Role) → row_allows Changing ty ro ≡ false → (c : ChangerView) (h : HostChanger) (command : HostRequest) (bytes : List ℕ) → Let ty ro (request.Host command) → Quiet c (changer_command_step c h command bytes)
+changer_command_quiet ty ro closed c h (host.SendDiagnostic code test l) bytes lets = record { same = refl; steady = refl }
+changer_command_quiet ty ro closed c h (host.LogSelect pcr sp pc page subpage l) bytes lets = barred _ lets closed
+changer_command_quiet ty ro closed c h (host.LogSense ppc sp pc page subpage pointer l) bytes lets = record { same = refl; steady = answers_steady l _ }
+changer_command_quiet ty ro closed c h (host.ModeSelect10 sp l) bytes lets = record { same = refl; steady = refl }
+changer_command_quiet ty ro closed c h (host.ModeSense10 dbd pc page subpage l) bytes lets = record { same = refl; steady = answers_steady l _ }
+changer_command_quiet ty ro closed c h (host.ReportSupportedOperationCodes rctd options code action l) bytes lets = record { same = refl; steady = answers_steady l _ }
+changer_command_quiet ty ro closed c h (host.ReportSupportedTaskManagementFunctions repd l) bytes lets = record { same = refl; steady = refl }
+changer_command_quiet ty ro closed c h (host.PositionToElement transport destination invert) bytes lets = barred _ lets closed
+changer_command_quiet ty ro closed c h (host.InitializeElementStatusWithRange fast range start count) bytes lets = record { same = refl; steady = refl }
+changer_command_quiet ty ro closed c h (host.ExchangeMedium transport source first second inv1 inv2) bytes lets = barred _ lets closed
 
 host_changer_quiet : (ty : ResType) (ro : Role) → row_allows Changing ty ro ≡ false → (c : ChangerView) (h : HostChanger) (r : Request) (bytes : List ℕ) → Let ty ro r → Quiet c (host_changer_step c h r bytes)
 host_changer_quiet ty ro closed c h request.TestUnitReady bytes lets = record { same = refl; steady = refl }
@@ -190,7 +192,7 @@ host_changer_quiet ty ro closed c h request.InitializeElementStatus bytes lets =
 host_changer_quiet ty ro closed c h (request.ModeSense dbd pc page subpage l) bytes lets = record { same = refl; steady = answers_steady l _ }
 host_changer_quiet ty ro closed c h (request.MoveMedium transport source destination invert) bytes lets = barred _ lets closed
 host_changer_quiet ty ro closed c h (request.ReadElementStatus voltag type_code start count curdata dvcid l) bytes lets = record { same = refl; steady = refl }
-host_changer_quiet ty ro closed c h (request.Host command) bytes lets = record { same = refl; steady = changer_command_steady ty ro closed c.elements command bytes lets }
+host_changer_quiet ty ro closed c h (request.Host command) bytes lets = changer_command_quiet ty ro closed c h command bytes lets
 host_changer_quiet ty ro closed c h r bytes lets = record { same = refl; steady = refl }
 
 -- BY THE PROFILE

@@ -1,8 +1,9 @@
--- A MOVE MEDIUM of a sender to whom the changing classes are closed ends at the changer, before it looks at a drive.
-use Rattle.std.proofs.Common.{◌≡◌, ℕ, Bool, true, false, cond, List, [], ◌∷◌, refl, sym, ap, ◌∙◌, inl, inr}
-use Rattle.scsi_cdb.specs.declared.request.Request.TheVariants.{MoveMedium}
+-- A MOVE MEDIUM or an EXCHANGE MEDIUM of a sender to whom the changing classes are closed ends at the changer, before it looks at a drive.
+use Rattle.std.proofs.Common.{◌≡◌, ℕ, Bool, true, false, cond, List, [], ◌∷◌, refl, sym, ap, ◌∙◌, subst, inl, inr}
+use Rattle.scsi_cdb.specs.Classes.{class_of}
+use Rattle.scsi_cdb.specs.declared.request.Request.{Request}
 use Rattle.scsi_nexus.specs.declared.nexus.Nexus.{Nexus}
-use Rattle.permit_tables.specs.Permission.{Changing, row_allows}
+use Rattle.permit_tables.specs.Permission.{Group, Changing, group_of, row_allows}
 use Rattle.permit_tables.specs.declared.cell.Cell.{Cell}
 use Rattle.pr_core.specs.State.{res_type, role}
 use Rattle.pr_core.specs.declared.verdict.Verdict.TheVariants.{Allowed, Denied}
@@ -18,9 +19,8 @@ use Rattle.logical_unit.specs.UnitView.{UnitView}
 use Rattle.logical_unit.proofs.Contents.{changes_nothing}
 use Rattle.logical_unit.proofs.LeftToDrives.{left_is_own}
 use Rattle.logical_unit.proofs.Moved.{one_became, two_became}
-use Rattle.logical_unit.proofs.NamedDrives.{has_route}
+use Rattle.logical_unit.proofs.NamedDrives.{has_errand, errand_asked, moving}
 use Rattle.logical_unit.proofs.OutsiderLeavesContents.{barred}
-use Rattle.logical_unit.proofs.SameUnits.{decodes_move}
 
 allowed_class : (b : Bool) (c : Cell) → cond b Allowed (Denied c) ≡ Allowed → b ≡ true
 allowed_class true c h = refl
@@ -29,12 +29,14 @@ allowed_class false c h = cc
 pub never_left : (c : UnitView) (n : Nexus) (cdb bytes : List ℕ) (l : ℕ) (more : List ℕ) → named (commands_of c.device) (drives_of c.device) cdb ≡ l ∷ more → row_allows Changing (res_type c.state.reservations) (role c.state.reservations n) ≡ false
     → is_left (judged_at c n cdb bytes).2.sense ≡ true → ⊥
 never_left c n cdb bytes l more names closed left =
-    let route = has_route c.device cdb l more names in
+    let e = has_errand c.device cdb l more names in
     let u = contacted_present c n in
-    let move = Device (MoveMedium route.decodes.transport route.route.source route.route.destination route.decodes.invert) in
-    let is = decodes_move c.device cdb bytes l more route in
-    let own = left_is_own u n move bytes (sym (ap (λ x. is_left (judged_as u n x bytes).2.sense) is) ∙ left) in
-    barred (row_allows Changing (res_type c.state.reservations) (role c.state.reservations n)) (allowed_class _ _ own.goes_on.allowed) closed
+    let q : Request = e.decodes.request in
+    let is = errand_asked c.device cdb bytes l more e in
+    let own = left_is_own u n (Device q) bytes (sym (ap (λ x. is_left (judged_as u n x bytes).2.sense) is) ∙ left) in
+    let allowed : row_allows (group_of (class_of q)) (res_type c.state.reservations) (role c.state.reservations n) ≡ true = allowed_class _ _ own.goes_on.allowed in
+    barred (row_allows Changing (res_type c.state.reservations) (role c.state.reservations n))
+    (subst (λ (g : Group). row_allows g (res_type c.state.reservations) (role c.state.reservations n) ≡ true) (moving (drives_of c.device) q e.errand e.asks).changing allowed) closed
 
 pub alone_one : (c d v e : UnitView) (n : Nexus) (cdb bytes : List ℕ) (r : Reply) (l : ℕ) (more : List ℕ) → named (commands_of c.device) (drives_of c.device) cdb ≡ l ∷ more → row_allows Changing (res_type c.state.reservations) (role c.state.reservations n) ≡ false
     → MovesOne c d n cdb bytes ((v, r), e) → Executes c n cdb bytes (v, r) × (e ≡ d)

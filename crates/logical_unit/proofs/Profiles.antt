@@ -18,10 +18,9 @@ use Rattle.tape_medium.specs.declared.volume.Volume.{Volume}
 use Rattle.tape_medium.specs.declared.volume.VolumeTag.{VolumeTag}
 use Rattle.device_server.specs.Ends.{IsSameDevice}
 use Rattle.device_server.specs.Settled.{SameButSettled}
-use Rattle.device_server.specs.View.{DeviceView, Drive, Changer, profile_of, commands_of, taken, put, marked, journeyed}
+use Rattle.device_server.specs.View.{DeviceView, Drive, Changer, profile_of, commands_of, taken, put, marked}
 use Rattle.device_server.specs.declared.fault.BadPlace.{BadPlace}
 use Rattle.device_server.proofs.MarkLemmas.{drives_give, drives_get, changers_give, changers_get, marks_one}
-use Rattle.device_server.proofs.SameDevice.{journey_same}
 use Rattle.device_server.proofs.SettledLemmas.{same_settled}
 use Rattle.judgement.proofs.Carried.{judged_is}
 use Rattle.judgement.specs.Commands.{decoded_command}
@@ -35,8 +34,10 @@ use Rattle.logical_unit.specs.Legal.{reported_if, left_by_class, left_by, left_a
 use Rattle.logical_unit.specs.MoveJudgement.{Begins, IsLeftOpen, StaysIf}
 use Rattle.logical_unit.specs.declared.move_judgement.MoveJudgement.{MoveJudgement}
 use Rattle.logical_unit.specs.declared.move_judgement.MoveJudgement.TheVariants.{Answered, Left}
-use Rattle.logical_unit.specs.declared.route.Route.{Route}
+use Rattle.logical_unit.specs.declared.route.Errand.{Errand}
+use Rattle.logical_unit.specs.Move.{errand_noted}
 use Rattle.logical_unit.specs.Step.{contacted_present, answered}
+use Rattle.logical_unit.proofs.SameUnits.{errand_same}
 use Rattle.logical_unit.specs.UnitView.{Base, UnitView, RecordedUnitView, unit_of}
 
 -- a device from which a volume was taken, or into which one was put, is the same one
@@ -54,14 +55,14 @@ put_same (Changer c) e place volume puts = (changers_get (Changer c) e place vol
 pub put_profile : (d e : DeviceView) (place : ℕ) (volume : Volume) → put d place volume ≡ Ok e → profile_of e ≡ profile_of d
 put_profile d e place volume puts = (put_same d e place volume puts).profile
 
--- and so is one at which a mark was noted, or a journey, or a volume settled
+-- and so is one at which a mark was noted, or an errand, or a volume settled
 pub noted_profile : (d e : DeviceView) (place : ℕ) (tag : Option VolumeTag) (r : Result (Unit {0}) BadPlace)
     → OnOk r (marked d place tag ≡ Ok e) → OnErr r (e ≡ d) → profile_of e ≡ profile_of d
 noted_profile d e place tag (Ok done) ok same = (marks_one d e place tag ok).device.profile
 noted_profile d e place tag (Err fault) ok same = ap profile_of same
 
-pub journey_profile : (d : DeviceView) (source destination : ℕ) → profile_of (journeyed d source destination) ≡ profile_of d
-journey_profile d source destination = (journey_same d source destination).profile
+pub errand_profile : (errand : Errand) (d : DeviceView) → profile_of (errand_noted errand d) ≡ profile_of d
+errand_profile errand d = (errand_same errand d).profile
 
 pub settled_profile : (d e : DeviceView) → SameButSettled d e → profile_of e ≡ profile_of d
 settled_profile d e same = (same_settled d e same).profile
@@ -73,11 +74,11 @@ answered_profile d e old new n cdb bytes r answer of =
     let same = (judged_is (contacted_present (unit_of d old) n) n (decoded_command (commands_of d) cdb bytes) bytes).same in
     subst (λ (x : UnitView × Reply). x.0.state.profile ≡ profile_of x.0.device) answer (same.profile ∙ of ∙ sym same.device.device.profile)
 
-pub begun_profile : (d e : DeviceView) (old new : RecordedUnitView) (n : Nexus) (cdb bytes : List ℕ) (r : Route) (begun : MoveJudgement)
-    → Begins (unit_of d old) (unit_of e new) n cdb bytes r begun → StaysIf old new begun → (IsLeftOpen begun → e ≡ d)
+pub begun_profile : (d e : DeviceView) (old new : RecordedUnitView) (n : Nexus) (cdb bytes : List ℕ) (errand : Errand) (begun : MoveJudgement)
+    → Begins (unit_of d old) (unit_of e new) n cdb bytes errand begun → StaysIf old new begun → (IsLeftOpen begun → e ≡ d)
     → old.state.profile ≡ profile_of d → new.state.profile ≡ profile_of e
-begun_profile d e old new n cdb bytes r (Answered reply) begins stays device of = answered_profile d e old new n cdb bytes reply begins.answer of
-begun_profile d e old new n cdb bytes r (Left act decision) begins stays device of =
+begun_profile d e old new n cdb bytes errand (Answered reply) begins stays device of = answered_profile d e old new n cdb bytes reply begins.answer of
+begun_profile d e old new n cdb bytes errand (Left act decision) begins stays device of =
     ap (λ (s : RecordedUnitView). s.state.profile) stays ∙ of ∙ sym (ap profile_of (device tt))
 
 -- A RECORD, by what was asked and at which stage it was answered, leaves the profile

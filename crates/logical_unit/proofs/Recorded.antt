@@ -50,3 +50,11 @@ unnumbered lun u v n cdb bytes r step none = elim (executed u v n cdb bytes r st
 -- one record more, or none
 abbrev pub NoneOrOne : UnitView → UnitView → Type 0
 NoneOrOne u v = (last_number v ≡ last_number u) ⊎ (last_number v ≡ last_number u + 1)
+
+-- or any number of them
+abbrev pub SomeMore : UnitView → UnitView → Type 0
+SomeMore u v = (count : ℕ) × (last_number v ≡ last_number u + count)
+
+pub some_more : (u v : UnitView) → NoneOrOne u v → SomeMore u v
+some_more u v (inl none) = (0, omega (arith, none))
+some_more u v (inr one) = (1, one)

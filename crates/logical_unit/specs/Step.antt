@@ -1,5 +1,5 @@
 -- One event at one unit.
-use Rattle.std.specs.Prelude.{◌≡◌, ℕ, ◌+◌, ◌<◌, ◌^◌, Bool, true, false, List, [], ◌∷◌, ◌++◌, Option, None, Some, ◌⊎◌}
+use Rattle.std.specs.Prelude.{◌≡◌, ℕ, ◌+◌, ◌<◌, ◌≤◌, ◌^◌, Bool, true, false, List, [], ◌∷◌, ◌++◌, Option, None, Some, ◌⊎◌}
 use Rattle.scsi_nexus.specs.declared.nexus.Nexus.{Nexus}
 use Rattle.scsi_sense.specs.declared.sense.Sense.{Sense}
 use Rattle.scsi_sense.specs.declared.status.Status.{Status}
@@ -66,6 +66,10 @@ answered u n cdb bytes = recorded u n (act_of (commands_of u.device) cdb bytes) 
 abbrev pub HasNumber : UnitView → Type 0
 HasNumber u = last_number u + 1 < 2 ^ 64
 
+-- and for so many
+abbrev pub HasNumbers : UnitView → (count : ℕ) → Type 0
+HasNumbers u count = last_number u + count < 2 ^ 64
+
 -- BUSY with nothing changed, which must come where there is no slot for the sender or the last record number is used, and may come
 -- for want of memory; or the answer
 abbrev pub Executes : UnitView → Nexus → (cdb bytes : List ℕ) → UnitView × Reply → Type 0
@@ -74,6 +78,10 @@ Executes u n cdb bytes new = (new ≡ (u, busy)) ⊎ ((has_room u.state n ≡ tr
 -- why an event finds no record: there is no room for it, or the last number is used
 abbrev pub LacksRecord : UnitWithRoom → Type 0
 LacksRecord x = (x.room ≡ 0) ⊎ (last_number x.unit + 1 ≡ 2 ^ 64)
+
+-- and so many
+abbrev pub LacksRecords : UnitWithRoom → (count : ℕ) → Type 0
+LacksRecords x count = (x.room < count) ⊎ (2 ^ 64 ≤ last_number x.unit + count)
 
 -- a command is BUSY only where it may take memory beside the room for its record, or there is no slot for the sender, no room or no number
 abbrev pub IsBusyOnlyFor : UnitWithRoom → Nexus → (cdb bytes : List ℕ) → Reply → Type 0

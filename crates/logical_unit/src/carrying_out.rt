@@ -1,4 +1,4 @@
-ghost use Rattle.std.specs.Prelude.{◌≡◌, true, [], ◌∷◌, ◌++◌, Some, None};
+ghost use Rattle.std.specs.Prelude.{◌≡◌, ◌≢◌, true, [], ◌∷◌, ◌++◌, Some, None};
 ghost use Rattle.device_server.specs.View.{commands_of, drives_of};
 ghost use Rattle.judgement.specs.Replies.{busy};
 ghost use Rattle.judgement.specs.Commands.{act_of_decoded};
@@ -16,7 +16,7 @@ use crate::act_kind::ActKind;
 use crate::done::{Done, EventKind, asked_by, done_with};
 use crate::moves::{move_one, move_two};
 use crate::receipt::Receipt;
-use crate::route::route_of;
+use crate::route::{Errand, errand_of};
 use crate::unit::LogicalUnit;
 use device_server::DeviceServer;
 use judgement::ReceivedCommand;
@@ -32,11 +32,24 @@ fn recorded_kind(act: ActKind, numbers: &[(u8, u64)]) -> Option<ActKind>
     if numbers.is_empty() { None } else { Some(act) }
 }
 
-/// What the record of a MOVE MEDIUM says was asked.
-const MOVE: ActKind = ActKind::Command(Class::MoveMedium);
+/// What the record of a command that names drives says was asked: a MOVE MEDIUM, or an EXCHANGE MEDIUM.
+fn kind_of_errand<D: DeviceServer>(
+    changer: &LogicalUnit<D>,
+    received: &ReceivedCommand<'_>,
+) -> ActKind
+    requires kind { IsFor changer.now.unit.device received.now }
+    requires named { named (commands_of changer.now.unit.device) (drives_of changer.now.unit.device) received.now.cdb ≢ [] }
+    ensures { result ≡ act_kind_of (act_of_decoded (command_in received.now)) }
+{
+    match errand_of(changer.drives(), received) {
+        Some(Errand::Move(_)) => ActKind::Command(Class::MoveMedium),
+        Some(Errand::Exchange(_)) => ActKind::Command(Class::ExchangeMedium),
+        None => unreachable!(),
+    }
+}
 
 /// The volume that a command was carried out on which was sent to a unit: at a drive the one in its bay, at a changer the one where
-/// a MOVE MEDIUM ends, in a drive by its mark.
+/// a MOVE MEDIUM ends, in a drive by its mark, or the one that a drive gave in an EXCHANGE MEDIUM: the other was in no drive since it was kept.
 fn volume_after<D: DeviceServer>(
     unit: &LogicalUnit<D>,
     received: &ReceivedCommand<'_>,
@@ -46,8 +59,9 @@ fn volume_after<D: DeviceServer>(
 {
     match unit.kind() {
         Kind::Drive => unit.held(0),
-        Kind::Changer => match route_of(unit.drives(), received) {
-            Some(route) => unit.held(route.destination),
+        Kind::Changer => match errand_of(unit.drives(), received) {
+            Some(Errand::Move(route)) => unit.held(route.destination),
+            Some(Errand::Exchange(route)) => unit.held(route.given_end()),
             None => None,
         },
     }
@@ -128,7 +142,7 @@ impl<D: DeviceServer> LogicalUnit<D> {
     }
 }
 
-/// A MOVE MEDIUM that names one drive, as `move_one` does it, with its answer. Without a number it is BUSY, and nothing has
+/// A MOVE MEDIUM or an EXCHANGE MEDIUM that names one drive, as `move_one` does it, with its answer. Without a number it is BUSY, and nothing has
 /// changed.
 pub fn carry_out_move_one<'a, D: DeviceServer>(
     alloc: Global,
@@ -146,8 +160,9 @@ pub fn carry_out_move_one<'a, D: DeviceServer>(
     ensures unnumbered { result.numbers ≡ [] → result.reply ≡ busy }
 {
     let lun = changer.lun();
+    let asked = kind_of_errand(changer, received);
     let receipt = move_one(alloc, changer, drive, received);
-    let act = recorded_kind(MOVE, receipt.numbers.as_slice());
+    let act = recorded_kind(asked, receipt.numbers.as_slice());
     let volume = volume_after(changer, received);
     done_with(
         Some(received.nexus()),
@@ -160,7 +175,7 @@ pub fn carry_out_move_one<'a, D: DeviceServer>(
     )
 }
 
-/// The same for one that names two drives, the lower first.
+/// The same for a MOVE MEDIUM that names two drives, the lower first.
 pub fn carry_out_move_two<'a, D: DeviceServer>(
     alloc: Global,
     changer: &mut LogicalUnit<D>,
@@ -178,8 +193,9 @@ pub fn carry_out_move_two<'a, D: DeviceServer>(
     ensures unnumbered { result.numbers ≡ [] → result.reply ≡ busy }
 {
     let lun = changer.lun();
+    let asked = kind_of_errand(changer, received);
     let receipt = move_two(alloc, changer, low, high, received);
-    let act = recorded_kind(MOVE, receipt.numbers.as_slice());
+    let act = recorded_kind(asked, receipt.numbers.as_slice());
     let volume = volume_after(changer, received);
     done_with(
         Some(received.nexus()),

@@ -1,4 +1,4 @@
-//! What judgement finds of a MOVE MEDIUM at a changer, some of which its drives decide.
+//! What judgement finds of a MOVE MEDIUM or an EXCHANGE MEDIUM at a changer, some of which its drives decide.
 
 ghost use Rattle.std.specs.Prelude.{◌≡◌, true, IfOk, OnErr};
 ghost use Rattle.scsi_cdb.specs.declared.kind.Kind.TheVariants.{Changer};

@@ -1,18 +1,20 @@
-ghost use Rattle.std.specs.Prelude.{◌≡◌, ◌≢◌, ◌⊎◌, ◌<◌, ◌+◌, [], ◌∷◌, ◌++◌, true, Ok, Err, IsOk, Some, None, IfOk, OnOk, IfErr, OnErr};
+ghost use Rattle.std.specs.Prelude.{◌≡◌, ◌≢◌, ◌⊎◌, ◌<◌, ◌≤◌, ◌+◌, [], ◌∷◌, ◌++◌, length, true, Ok, Err, IsOk, Some, None, IfOk, OnOk, IfErr, OnErr};
 ghost use Rattle.scsi_cdb.specs.declared.kind.Kind.TheVariants.{Changer};
 ghost use Rattle.device_server.specs.View.{kind_of, commands_of, drives_of, held_in};
 ghost use Rattle.judgement.specs.Received.{IsFor};
-ghost use Rattle.logical_unit.specs.MoveJudgement.{DecodesTo, HasWays, StopsMove, AwaitsEnd, Finishes};
+ghost use Rattle.logical_unit.specs.MoveJudgement.{DecodesTo, HasRouteWays, HasWays, StopsMove, AwaitsEnd, Finishes};
 ghost use Rattle.logical_unit.specs.Contents.{SameContents, MayNotChange};
 ghost use Rattle.logical_unit.specs.Medium.{taken_out, put_in};
-ghost use Rattle.logical_unit.specs.Move.{TwoDrives, given, unloaded, loaded, passed, carried_by_one, carried_one, carried_by_two, carried_two, MovesOne, MovesTwo, OneIsBusyOnlyFor, TwoAreBusyOnlyFor, numbers_of};
-ghost use Rattle.logical_unit.specs.Route.{named, route_of};
-ghost use Rattle.logical_unit.specs.Step.{HasNumber, LacksRecord};
+ghost use Rattle.logical_unit.specs.Move.{TwoDrives, given, unloaded, loaded, passed, carried_by_one, carried_with_one, carried_one, carried_by_two, carried_two, MovesOne, MovesTwo, OneIsBusyOnlyFor, TwoAreBusyOnlyFor, numbers_of};
+ghost use Rattle.logical_unit.specs.Route.{named, errand_of, records_for};
+ghost use Rattle.logical_unit.specs.declared.route.Errand.TheVariants.{Move};
+ghost use Rattle.logical_unit.specs.Step.{HasNumber, HasNumbers, LacksRecord, LacksRecords};
 ghost use Rattle.logical_unit.specs.UnitView.{last_number, with_device};
 
+use crate::exchanges::exchange;
 use crate::move_judgement::{MoveJudgement, MoveStop};
 use crate::receipt::Receipt;
-use crate::route::{Route, route_of};
+use crate::route::{Errand, Route, errand_of};
 use crate::unit::LogicalUnit;
 use audit_log::Act;
 use device_server::{DeviceServer, Payload};
@@ -22,13 +24,14 @@ use std::alloc::Global;
 use tape_medium::Volume;
 
 /// Takes out the volume of a drive that gives it, with the number of its record.
-fn take_out<D: DeviceServer>(drive: &mut LogicalUnit<D>) -> (Volume, u64)
+pub(crate) fn take_out<D: DeviceServer>(drive: &mut LogicalUnit<D>) -> (Volume, u64)
     requires gives { IsOk (taken_out drive.old.unit) }
     requires room { 0 < drive.old.room }
     requires number { HasNumber drive.old.unit }
     ensures unit { taken_out drive.old.unit ≡ Ok (result.0, drive.new.unit) }
     ensures last { last_number drive.new.unit ≡ last_number drive.old.unit + 1 }
     ensures number { result.1 ≡ last_number drive.old.unit + 1 }
+    ensures room { drive.old.room ≤ drive.new.room + 1 }
 {
     match drive.medium_out() {
         Ok(taken) => taken,
@@ -37,7 +40,7 @@ fn take_out<D: DeviceServer>(drive: &mut LogicalUnit<D>) -> (Volume, u64)
 }
 
 /// Puts a volume into a drive that takes it, and answers the number of its record.
-fn take_in<D: DeviceServer>(drive: &mut LogicalUnit<D>, volume: Volume) -> u64
+pub(crate) fn take_in<D: DeviceServer>(drive: &mut LogicalUnit<D>, volume: Volume) -> u64
     requires takes { IsOk (put_in drive.old.unit volume) }
     requires room { 0 < drive.old.room }
     requires number { HasNumber drive.old.unit }
@@ -58,7 +61,7 @@ fn unload<D: DeviceServer>(
     drive: &mut LogicalUnit<D>,
     route: Route,
 ) -> Result<u64, MoveStop>
-    requires ways { HasWays changer.old.unit.device route }
+    requires ways { HasRouteWays changer.old.unit.device route }
     requires to { route.to ≡ None }
     ensures ok { OnOk result (unloaded changer.old.unit.device drive.old.unit route ≡ Ok (changer.new.unit.device, drive.new.unit)) }
     ensures number { IfOk result (λ number. HasNumber drive.old.unit × (number ≡ last_number drive.old.unit + 1)) }
@@ -86,7 +89,7 @@ fn load<D: DeviceServer>(
     drive: &mut LogicalUnit<D>,
     route: Route,
 ) -> Result<u64, MoveStop>
-    requires ways { HasWays changer.old.unit.device route }
+    requires ways { HasRouteWays changer.old.unit.device route }
     requires from { route.from ≡ None }
     ensures ok { OnOk result (loaded changer.old.unit.device drive.old.unit route ≡ Ok (changer.new.unit.device, drive.new.unit)) }
     ensures number { IfOk result (λ number. HasNumber drive.old.unit × (number ≡ last_number drive.old.unit + 1)) }
@@ -152,7 +155,7 @@ fn carry_by_one<D: DeviceServer>(
     drive: &mut LogicalUnit<D>,
     route: Route,
 ) -> Result<u64, MoveStop>
-    requires ways { HasWays changer.old.unit.device route }
+    requires ways { HasRouteWays changer.old.unit.device route }
     ensures ok { OnOk result (carried_by_one changer.old.unit.device drive.old.unit route route.from route.to ≡ Ok (changer.new.unit.device, drive.new.unit)) }
     ensures number { IfOk result (λ number. HasNumber drive.old.unit × (number ≡ last_number drive.old.unit + 1)) }
     ensures last { OnOk result (last_number drive.new.unit ≡ last_number drive.old.unit + 1) }
@@ -169,22 +172,42 @@ fn carry_by_one<D: DeviceServer>(
     }
 }
 
+/// Carries the volumes of an errand that names one drive, and answers the number of the first of the drive's records.
+fn carry_with_one<D: DeviceServer>(
+    changer: &mut LogicalUnit<D>,
+    drive: &mut LogicalUnit<D>,
+    errand: Errand,
+) -> Result<u64, MoveStop>
+    requires ways { HasWays changer.old.unit.device errand }
+    ensures ok { OnOk result (carried_with_one changer.old.unit.device drive.old.unit errand ≡ Ok (changer.new.unit.device, drive.new.unit)) }
+    ensures number { IfOk result (λ number. HasNumbers drive.old.unit (records_for errand) × (number ≡ last_number drive.old.unit + 1)) }
+    ensures last { OnOk result (last_number drive.new.unit ≡ last_number drive.old.unit + records_for errand) }
+    ensures changer { changer.new ≡ with_device changer.old changer.new.unit.device }
+    ensures err { IfErr result (StopsMove (carried_with_one changer.old.unit.device drive.old.unit errand) (LacksRecords drive.old (records_for errand))) }
+    ensures same { OnErr result ((changer.new ≡ changer.old) × (drive.new.unit ≡ drive.old.unit)) }
+{
+    match errand {
+        Errand::Move(route) => carry_by_one(changer, drive, route),
+        Errand::Exchange(route) => exchange(changer, drive, route),
+    }
+}
+
 /// The same, which the changer notes.
 fn carry_one<D: DeviceServer>(
     changer: &mut LogicalUnit<D>,
     drive: &mut LogicalUnit<D>,
-    route: Route,
+    errand: Errand,
 ) -> Result<u64, MoveStop>
-    requires ways { HasWays changer.old.unit.device route }
-    ensures ok { OnOk result (carried_one changer.old.unit.device drive.old.unit (Some route) ≡ Ok (changer.new.unit.device, drive.new.unit)) }
-    ensures number { IfOk result (λ number. HasNumber drive.old.unit × (number ≡ last_number drive.old.unit + 1)) }
-    ensures last { OnOk result (last_number drive.new.unit ≡ last_number drive.old.unit + 1) }
+    requires ways { HasWays changer.old.unit.device errand }
+    ensures ok { OnOk result (carried_one changer.old.unit.device drive.old.unit (Some errand) ≡ Ok (changer.new.unit.device, drive.new.unit)) }
+    ensures number { IfOk result (λ number. HasNumbers drive.old.unit (records_for errand) × (number ≡ last_number drive.old.unit + 1)) }
+    ensures last { OnOk result (last_number drive.new.unit ≡ last_number drive.old.unit + records_for errand) }
     ensures changer { changer.new ≡ with_device changer.old changer.new.unit.device }
-    ensures err { IfErr result (StopsMove (carried_one changer.old.unit.device drive.old.unit (Some route)) (LacksRecord drive.old)) }
+    ensures err { IfErr result (StopsMove (carried_one changer.old.unit.device drive.old.unit (Some errand)) (LacksRecords drive.old (records_for errand))) }
     ensures same { OnErr result ((changer.new ≡ changer.old) × (drive.new.unit ≡ drive.old.unit)) }
 {
-    let number = carry_by_one(changer, drive, route)?;
-    changer.note_journey(route);
+    let number = carry_with_one(changer, drive, errand)?;
+    changer.note_errand(errand);
     Ok(number)
 }
 
@@ -221,21 +244,21 @@ fn carry_two<D: DeviceServer>(
     high: &mut LogicalUnit<D>,
     route: Route,
 ) -> Result<(u64, u64), MoveStop>
-    ensures ok { OnOk result (carried_two changer.old.unit.device (record { low = low.old.unit; high = high.old.unit }) (Some route) ≡ Ok (changer.new.unit.device, record { low = low.new.unit; high = high.new.unit })) }
+    ensures ok { OnOk result (carried_two changer.old.unit.device (record { low = low.old.unit; high = high.old.unit }) (Some (Move route)) ≡ Ok (changer.new.unit.device, record { low = low.new.unit; high = high.new.unit })) }
     ensures low { IfOk result (λ it. HasNumber low.old.unit × (it.0 ≡ last_number low.old.unit + 1)) }
     ensures last_low { OnOk result (last_number low.new.unit ≡ last_number low.old.unit + 1) }
     ensures high { IfOk result (λ it. HasNumber high.old.unit × (it.1 ≡ last_number high.old.unit + 1)) }
     ensures last_high { OnOk result (last_number high.new.unit ≡ last_number high.old.unit + 1) }
     ensures changer { changer.new ≡ with_device changer.old changer.new.unit.device }
-    ensures err { IfErr result (StopsMove (carried_two changer.old.unit.device (record { low = low.old.unit; high = high.old.unit }) (Some route)) (LacksRecord low.old ⊎ LacksRecord high.old)) }
+    ensures err { IfErr result (StopsMove (carried_two changer.old.unit.device (record { low = low.old.unit; high = high.old.unit }) (Some (Move route))) (LacksRecord low.old ⊎ LacksRecord high.old)) }
     ensures same { OnErr result ((changer.new ≡ changer.old) × (low.new.unit ≡ low.old.unit) × (high.new.unit ≡ high.old.unit)) }
 {
     let numbers = carry_by_two(changer, low, high, route)?;
-    changer.note_journey(route);
+    changer.note_errand(Errand::Move(route));
     Ok(numbers)
 }
 
-/// Ends a move that judgement left to the drives, by what became of the volume.
+/// Ends a command that judgement left to the drives, by what became of the volumes.
 fn finish<D: DeviceServer>(
     alloc: Global,
     changer: &mut LogicalUnit<D>,
@@ -259,13 +282,13 @@ fn finish<D: DeviceServer>(
     }
 }
 
-/// A MOVE MEDIUM (SMC-3, "MOVE MEDIUM command") at the changer, which names one drive, as `named` says. It is
-/// judged at the changer as every command is. Where its map and marks refuse nothing, 53h/02h is reported for a
-/// drive that gives its volume while removal is prevented there, then 44h/00h for one whose bay isn't as the map
-/// says; else the volume goes, the changer's record says GOOD and the drive has a record of its own. A drive's
-/// reservation isn't asked. BUSY changes nothing; it comes only where there is no slot for the sender, or no room
-/// or no number for the record at the changer, or at the drive, of a volume that would go. A sender to whom the
-/// permission table closes the changing classes at the changer leaves its elements, and the drive.
+/// A MOVE MEDIUM or an EXCHANGE MEDIUM (SMC-3, "MOVE MEDIUM command", "EXCHANGE MEDIUM command") at the changer, which names one drive, as
+/// `named` says. It is judged at the changer as every command is. Where its map and marks refuse nothing, 53h/02h is reported for a drive
+/// that gives its volume while removal is prevented there, then 44h/00h for one whose bay isn't as the map says; else the volumes go, the
+/// changer's record says GOOD and the drive has a record of its own of the volume that it gave, and then one of the volume that it took. A
+/// drive's reservation isn't asked. BUSY changes nothing; it comes only where there is no slot for the sender, or no room or no number for
+/// the record at the changer, or for those of the drive, of volumes that would go. A sender to whom the permission table closes the
+/// changing classes at the changer leaves its elements, and the drive.
 pub fn move_one<D: DeviceServer>(
     alloc: Global,
     changer: &mut LogicalUnit<D>,
@@ -282,15 +305,16 @@ pub fn move_one<D: DeviceServer>(
 {
     let lun = changer.lun();
     let drive_lun = drive.lun();
-    let route = route_in(changer, received);
-    let (act, decision) = match changer.begin(alloc, received, route) {
+    let last = drive.last();
+    let errand = errand_in(changer, received);
+    let (act, decision) = match changer.begin(alloc, received, errand) {
         MoveJudgement::Answered(reply) => return Receipt::of(lun, reply),
         MoveJudgement::Left(act, decision) => (act, decision),
     };
-    match carry_one(changer, drive, route) {
-        Ok(number) => {
+    match carry_one(changer, drive, errand) {
+        Ok(_) => {
             let reply = finish(alloc, changer, received, act, decision, None);
-            Receipt::of(lun, reply).with(drive_lun, number)
+            Receipt::of(lun, reply).with_more(drive_lun, last, errand.records())
         }
         Err(stop) => {
             let reply = finish(alloc, changer, received, act, decision, Some(stop));
@@ -299,7 +323,7 @@ pub fn move_one<D: DeviceServer>(
     }
 }
 
-/// The same for one which names two drives, the lower first: the volume goes out of one and into the other.
+/// The same for a MOVE MEDIUM which names two drives, the lower first: the volume goes out of one and into the other.
 pub fn move_two<D: DeviceServer>(
     alloc: Global,
     changer: &mut LogicalUnit<D>,
@@ -319,7 +343,7 @@ pub fn move_two<D: DeviceServer>(
     let low_lun = low.lun();
     let high_lun = high.lun();
     let route = route_in(changer, received);
-    let (act, decision) = match changer.begin(alloc, received, route) {
+    let (act, decision) = match changer.begin(alloc, received, Errand::Move(route)) {
         MoveJudgement::Answered(reply) => return Receipt::of(lun, reply),
         MoveJudgement::Left(act, decision) => (act, decision),
     };
@@ -336,16 +360,30 @@ pub fn move_two<D: DeviceServer>(
     }
 }
 
-/// The route of a command that names a drive.
-fn route_in<D: DeviceServer>(changer: &LogicalUnit<D>, received: &ReceivedCommand<'_>) -> Route
+/// What a command that names a drive asks of volumes.
+fn errand_in<D: DeviceServer>(changer: &LogicalUnit<D>, received: &ReceivedCommand<'_>) -> Errand
     requires kind { IsFor changer.now.unit.device received.now }
     requires named { named (commands_of changer.now.unit.device) (drives_of changer.now.unit.device) received.now.cdb ≢ [] }
     ensures decodes { DecodesTo (commands_of changer.now.unit.device) (drives_of changer.now.unit.device) received.now.cdb result }
-    ensures route { route_of (commands_of changer.now.unit.device) (drives_of changer.now.unit.device) received.now.cdb ≡ Some result }
+    ensures errand { errand_of (commands_of changer.now.unit.device) (drives_of changer.now.unit.device) received.now.cdb ≡ Some result }
     ensures changer { kind_of changer.now.unit.device ≡ Changer }
 {
-    match route_of(changer.drives(), received) {
-        Some(route) => route,
+    match errand_of(changer.drives(), received) {
+        Some(errand) => errand,
         None => unreachable!(),
+    }
+}
+
+/// The route of a command that names two drives, which is a MOVE MEDIUM.
+fn route_in<D: DeviceServer>(changer: &LogicalUnit<D>, received: &ReceivedCommand<'_>) -> Route
+    requires kind { IsFor changer.now.unit.device received.now }
+    requires named { 1 < length (named (commands_of changer.now.unit.device) (drives_of changer.now.unit.device) received.now.cdb) }
+    ensures decodes { DecodesTo (commands_of changer.now.unit.device) (drives_of changer.now.unit.device) received.now.cdb (Move result) }
+    ensures errand { errand_of (commands_of changer.now.unit.device) (drives_of changer.now.unit.device) received.now.cdb ≡ Some (Move result) }
+    ensures changer { kind_of changer.now.unit.device ≡ Changer }
+{
+    match errand_in(changer, received) {
+        Errand::Move(route) => route,
+        Errand::Exchange(_) => unreachable!(),
     }
 }

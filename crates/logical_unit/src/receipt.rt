@@ -2,7 +2,7 @@ use arrayvec::ArrayVec;
 use judgement::Reply;
 use std::alloc::Global;
 
-/// The answer to an event, and the records that it left: one at most, unless it is a MOVE MEDIUM that names drives.
+/// The answer to an event, and the records that it left: one at most, unless it is a MOVE MEDIUM or an EXCHANGE MEDIUM that names drives.
 #[derive(Drop)]
 pub struct Receipt {
     pub reply: Reply,
@@ -12,8 +12,9 @@ pub struct Receipt {
 }
 
 impl Receipt {
-    ghost use Rattle.std.specs.Prelude.{◌≡◌, ◌<◌, ◌≤◌, ◌+◌, [], ◌∷◌, ◌++◌, ◌==◌, if◌then◌else◌};
+    ghost use Rattle.std.specs.Prelude.{◌≡◌, ◌<◌, ◌≤◌, ◌+◌, ◌^◌, [], ◌∷◌, ◌++◌, ◌==◌, if◌then◌else◌};
     ghost use Rattle.arrayvec.specs.ArrayVec.{array_vec_len};
+    ghost use Rattle.logical_unit.specs.Move.{numbers_after};
 
     /// Of an answer that left no record but the changer's, if that.
     pub(crate) fn of(lun: u8, reply: Reply) -> Receipt
@@ -38,5 +39,21 @@ impl Receipt {
         let Receipt { reply, mut numbers } = self;
         numbers.push((lun, number));
         Receipt { reply, numbers }
+    }
+
+    /// With the records of a drive that has so many after the one of a last number.
+    pub(crate) fn with_more(self, lun: u8, last: u64, count: u8) -> Receipt
+        requires some { 1 ≤ count }
+        requires few { array_vec_len self.numbers + count ≤ 3 }
+        requires number { last + count < 2 ^ 64 }
+        requires two { count ≤ 2 }
+        ensures reply { result.reply ≡ self.reply }
+        ensures numbers { result.numbers.items ≡ self.numbers.items ++ numbers_after lun last count }
+    {
+        let receipt = self.with(lun, last + 1);
+        if count == 1 {
+            return receipt;
+        }
+        receipt.with(lun, last + 2)
     }
 }

@@ -2,7 +2,7 @@ use crate::act_kind::{ActKind, act_kind_of};
 use crate::audit::span_lines;
 use crate::move_finding::{MoveFinding, judge_move};
 use crate::move_judgement::MoveJudgement;
-use crate::route::Route;
+use crate::route::Errand;
 use audit_log::{Act, Record, Stage, Trail};
 use device_server::DeviceServer;
 use judgement::{Command, Decision, ReceivedCommand, Reply, UnitState, act_of, judge};
@@ -41,7 +41,7 @@ impl Model for RecordedUnit {
 }
 
 impl RecordedUnit {
-    ghost use Rattle.std.specs.Prelude.{◌≡◌, ◌<◌, ◌+◌, ◌^◌, ◌⊎◌, ℕ, true, false, [], map, string_bytes, IfOk, IsTrue};
+    ghost use Rattle.std.specs.Prelude.{◌≡◌, ◌<◌, ◌≤◌, ◌+◌, ◌^◌, ◌⊎◌, ℕ, true, false, [], map, string_bytes, IfOk, IsTrue};
     ghost use Rattle.unit_attention.specs.Queues.{has_slot};
     ghost use Rattle.logical_unit.specs.UnitView.{Base, RecordedUnitView, last_in};
     ghost use Rattle.judgement.specs.UnitState.{at_power_on, has_room, is_prevented, HaveSlots};
@@ -136,6 +136,7 @@ impl RecordedUnit {
     pub(crate) fn reserve(&mut self) -> bool
         ensures rest { self.new ≡ record self.old { room = self.new.room } }
         ensures room { IsTrue result → 0 < self.new.room }
+        ensures kept { self.old.room ≤ self.new.room }
         ensures number { IsTrue result → last_in self.new + 1 < 2 ^ 64 }
         ensures lacks { result ≡ false → (self.old.room ≡ 0) ⊎ (last_in self.old + 1 ≡ 2 ^ 64) }
     {
@@ -143,6 +144,19 @@ impl RecordedUnit {
             return false;
         }
         self.trail.reserve_one().is_ok()
+    }
+
+    /// The same for so many records.
+    pub(crate) fn reserve_for(&mut self, count: u8) -> bool
+        ensures rest { self.new ≡ record self.old { room = self.new.room } }
+        ensures room { IsTrue result → count ≤ self.new.room }
+        ensures number { IsTrue result → last_in self.new + count < 2 ^ 64 }
+        ensures lacks { result ≡ false → (self.old.room < count) ⊎ (2 ^ 64 ≤ last_in self.old + count) }
+    {
+        if self.trail.last().checked_add(u64::from(count)).is_none() {
+            return false;
+        }
+        self.trail.reserve(usize::from(count)).is_ok()
     }
 }
 
@@ -200,23 +214,23 @@ impl RecordedUnit {
         Ok((reply.numbered(number), kind))
     }
 
-    /// Begins a MOVE MEDIUM at a changer: judged, it is answered with its record, or left to the drives with
+    /// Begins a MOVE MEDIUM or an EXCHANGE MEDIUM at a changer: judged, it is answered with its record, or left to the drives with
     /// nothing changed and without the device being asked. Want of memory changes nothing.
     pub(crate) fn begin<D: DeviceServer>(
         &mut self,
         alloc: Global,
         device: &mut Box<D>,
         received: &ReceivedCommand<'_>,
-        route: Route,
+        errand: Errand,
     ) -> Result<MoveJudgement, AllocError>
         requires changer { kind_of (D.shown device.old.value) ≡ Changer }
         requires kind { IsFor (D.shown device.old.value) received.now }
         requires profile { self.old.state.profile ≡ profile_of (D.shown device.old.value) }
-        requires route { DecodesTo (commands_of (D.shown device.old.value)) (drives_of (D.shown device.old.value)) received.now.cdb route }
+        requires errand { DecodesTo (commands_of (D.shown device.old.value)) (drives_of (D.shown device.old.value)) received.now.cdb errand }
         requires slot { has_room self.old.state received.now.nexus ≡ true }
         requires room { 0 < self.old.room }
         requires number { last_in self.old + 1 < 2 ^ 64 }
-        ensures begins { IfOk result (Begins (unit_of (D.shown device.old.value) self.old) (unit_of (D.shown device.new.value) self.new) received.now.nexus received.now.cdb received.now.bytes route) }
+        ensures begins { IfOk result (Begins (unit_of (D.shown device.old.value) self.old) (unit_of (D.shown device.new.value) self.new) received.now.nexus received.now.cdb received.now.bytes errand) }
         ensures stays { IfOk result (StaysIf self.old self.new) }
         ensures device { IfOk result (λ begun. IsLeftOpen begun → D.shown device.new.value ≡ D.shown device.old.value) }
         ensures err { OnErr result ((D.shown device.new.value ≡ D.shown device.old.value) × (self.new ≡ self.old)) }
@@ -292,6 +306,7 @@ impl RecordedUnit {
         ensures state { self.new.state ≡ with_medium self.old.state }
         ensures base { self.new.base ≡ self.old.base }
         ensures records { self.new.records ≡ self.old.records ++ event_of (last_in self.old + 1) None MediumIn ∷ [] }
+        ensures room { self.new.room + 1 ≡ self.old.room }
         ensures number { result ≡ last_in self.old + 1 }
     {
         self.state.take_in_medium();
@@ -306,6 +321,7 @@ impl RecordedUnit {
         ensures state { self.new.state ≡ self.old.state }
         ensures base { self.new.base ≡ self.old.base }
         ensures records { self.new.records ≡ self.old.records ++ event_of (last_in self.old + 1) None MediumOut ∷ [] }
+        ensures room { self.new.room + 1 ≡ self.old.room }
         ensures number { result ≡ last_in self.old + 1 }
     {
         note_event(&mut self.trail, None, Act::MediumOut)
@@ -342,6 +358,7 @@ fn note(
     requires number { last_of trail.old + 1 < 2 ^ 64 }
     ensures base { trail.new.base ≡ trail.old.base }
     ensures records { trail.new.records ≡ trail.old.records ++ record_of (last_of trail.old + 1) nexus act decision status sense ∷ [] }
+    ensures room { trail.new.room + 1 ≡ trail.old.room }
     ensures number { result ≡ last_of trail.old + 1 }
 {
     let number = trail.last() + 1;
@@ -365,6 +382,7 @@ fn note_event(trail: &mut Trail, nexus: Option<Nexus>, act: Act) -> u64
     requires number { last_of trail.old + 1 < 2 ^ 64 }
     ensures base { trail.new.base ≡ trail.old.base }
     ensures records { trail.new.records ≡ trail.old.records ++ event_of (last_of trail.old + 1) nexus act ∷ [] }
+    ensures room { trail.new.room + 1 ≡ trail.old.room }
     ensures number { result ≡ last_of trail.old + 1 }
 {
     let decision = Decision::at_stage(Stage::Device);

@@ -1,7 +1,7 @@
 use crate::act_kind::ActKind;
 use crate::medium_fault::MediumFault;
 use crate::move_judgement::MoveJudgement;
-use crate::route::Route;
+use crate::route::Errand;
 use crate::state::RecordedUnit;
 use audit_log::{Act, Record};
 use device_server::{Attendant, DeviceServer, Payload};
@@ -193,7 +193,7 @@ impl<D: DeviceServer> LogicalUnit<D> {
 }
 
 impl<D: DeviceServer> LogicalUnit<D> {
-    ghost use Rattle.std.specs.Prelude.{◌≡◌, ◌+◌, [], true, length, vec_capacity, Ok, IfOk, IfErr, OnOk, OnErr};
+    ghost use Rattle.std.specs.Prelude.{◌≡◌, ◌≤◌, ◌+◌, [], true, length, vec_capacity, Ok, IfOk, IfErr, OnOk, OnErr};
     ghost use Rattle.unit_attention.specs.Queues.{has_slot};
     ghost use Rattle.device_server.specs.Settled.{SameButSettled};
     ghost use Rattle.logical_unit.specs.UnitView.{UnitView, UnitWithRoom, last_number, with_device};
@@ -310,6 +310,7 @@ impl<D: DeviceServer> LogicalUnit<D> {
         ensures err { IfErr result (IsRefusal (taken_out self.old.unit)) }
         ensures same { OnErr result (self.new.unit ≡ self.old.unit) }
         ensures lacks { IfErr result (λ fault. fault ≡ MediumFault.Busy → LacksRecord self.old) }
+        ensures room { OnOk result (self.old.room ≤ self.new.room + 1) }
     {
         if self.device.kind() == Kind::Changer {
             return Err(MediumFault::NotADrive);
@@ -387,16 +388,16 @@ impl<D: DeviceServer> LogicalUnit<D> {
 }
 
 impl<D: DeviceServer> LogicalUnit<D> {
-    ghost use Rattle.std.specs.Prelude.{◌≡◌, ◌<◌, ◌+◌, ◌⊎◌, false, Ok, IsOk, is_ok, IsTrue, OnOk, IfErr, Err};
+    ghost use Rattle.std.specs.Prelude.{◌≡◌, ◌<◌, ◌≤◌, ◌+◌, ◌⊎◌, false, Ok, IsOk, is_ok, IsTrue, OnOk, IfErr, Err};
     ghost use Rattle.scsi_cdb.specs.declared.kind.Kind.TheVariants.{Changer};
-    ghost use Rattle.device_server.specs.View.{kind_of, commands_of, drives_of, taken, put, journeyed};
+    ghost use Rattle.device_server.specs.View.{kind_of, commands_of, drives_of, taken, put};
     ghost use Rattle.judgement.specs.Replies.{IsWhole};
     ghost use Rattle.judgement.specs.JudgedUnit.{JudgedUnit};
     ghost use Rattle.logical_unit.specs.MoveJudgement.{DecodesTo, BeginsAt, AwaitsEnd};
     ghost use Rattle.judgement.specs.Received.{IsFor};
     ghost use Rattle.logical_unit.specs.Medium.{taken_out, put_in};
-    ghost use Rattle.logical_unit.specs.Move.{given, noting};
-    ghost use Rattle.logical_unit.specs.Step.{HasNumber, LacksRecord, recorded};
+    ghost use Rattle.logical_unit.specs.Move.{given, noting, errand_noted};
+    ghost use Rattle.logical_unit.specs.Step.{HasNumber, HasNumbers, LacksRecord, LacksRecords, recorded};
     ghost use Rattle.logical_unit.specs.UnitView.{UnitView, UnitWithRoom, with_device};
 
     /// Makes room for one record more, where there is a number for it.
@@ -409,18 +410,28 @@ impl<D: DeviceServer> LogicalUnit<D> {
         self.state.reserve()
     }
 
-    /// Begins a MOVE MEDIUM at a changer: judged, it is answered with its record, or left to the drives with
-    /// nothing changed. BUSY as for any command.
+    /// The same for so many records.
+    pub(crate) fn reserve_for(&mut self, count: u8) -> bool
+        ensures unit { self.new.unit ≡ self.old.unit }
+        ensures room { IsTrue result → count ≤ self.new.room }
+        ensures number { IsTrue result → HasNumbers self.old.unit count }
+        ensures lacks { result ≡ false → LacksRecords self.old count }
+    {
+        self.state.reserve_for(count)
+    }
+
+    /// Begins a MOVE MEDIUM or an EXCHANGE MEDIUM at a changer: judged, it is answered with its record, or left to the
+    /// drives with nothing changed. BUSY as for any command.
     pub(crate) fn begin(
         &mut self,
         alloc: Global,
         received: &ReceivedCommand<'_>,
-        route: Route,
+        errand: Errand,
     ) -> MoveJudgement
         requires changer { kind_of self.old.unit.device ≡ Changer }
         requires kind { IsFor self.old.unit.device received.now }
-        requires route { DecodesTo (commands_of self.old.unit.device) (drives_of self.old.unit.device) received.now.cdb route }
-        ensures { BeginsAt self.old self.new received.now.nexus received.now.cdb received.now.bytes route result }
+        requires errand { DecodesTo (commands_of self.old.unit.device) (drives_of self.old.unit.device) received.now.cdb errand }
+        ensures { BeginsAt self.old self.new received.now.nexus received.now.cdb received.now.bytes errand result }
     {
         if !self.state.has_room(received.nexus()) {
             return MoveJudgement::Answered(Reply::busy(alloc));
@@ -429,7 +440,7 @@ impl<D: DeviceServer> LogicalUnit<D> {
             return MoveJudgement::Answered(Reply::busy(alloc));
         }
         let device = &mut self.device;
-        let Ok(begun) = self.state.begin(alloc, device, received, route) else {
+        let Ok(begun) = self.state.begin(alloc, device, received, errand) else {
             return MoveJudgement::Answered(Reply::busy(alloc));
         };
         begun
@@ -477,11 +488,17 @@ impl<D: DeviceServer> LogicalUnit<D> {
         let _ = self.device.mark(place, tag);
     }
 
-    /// Notes at a changer that a volume was carried from one address to another.
-    pub(crate) fn note_journey(&mut self, route: Route)
-        ensures { self.new ≡ with_device self.old (journeyed self.old.unit.device route.source route.destination) }
+    /// Notes at a changer what was carried.
+    pub(crate) fn note_errand(&mut self, errand: Errand)
+        ensures { self.new ≡ with_device self.old (errand_noted errand self.old.unit.device) }
     {
-        self.device.note_journey(route.source, route.destination);
+        match errand {
+            Errand::Move(route) => self.device.note_journey(route.source, route.destination),
+            Errand::Exchange(route) => {
+                self.device
+                    .note_exchange(route.source, route.first, route.second);
+            }
+        }
     }
 
     /// Whether the drive gives the volume that the mark at its element names; else what the changer reports.

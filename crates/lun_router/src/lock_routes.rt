@@ -27,7 +27,7 @@ use std::alloc::Global;
 use std::sync::Wait;
 
 impl<B: Ledgers, D: DeviceServer, G: Gate> UnitLocks<B, D, G> {
-    /// A command at its unit, or at none. A MOVE MEDIUM goes to the changer with the drives that it names. May wait for another
+    /// A command at its unit, or at none. A MOVE MEDIUM or EXCHANGE MEDIUM goes to the changer with the drives that it names. May wait for another
     /// call at the same units.
     pub fn step<'a, R: Wait>(
         &self,

@@ -249,7 +249,7 @@ pub(crate) fn has_room_if_there<const LUN: u8, L: UnitLedger, D: DeviceServer, R
     }
 }
 
-/// A MOVE MEDIUM over the changer and the drive under this lock. Where the drive is absent, the changer alone answers.
+/// A MOVE MEDIUM or EXCHANGE MEDIUM over the changer and the drive under this lock. Where the drive is absent, the changer alone answers.
 pub(crate) fn move_with_one<
     'a,
     const LUN: u8,

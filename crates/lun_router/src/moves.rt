@@ -22,7 +22,7 @@ use std::alloc::Global;
 use std::sync::Wait;
 
 impl<B: Ledgers, D: DeviceServer, G: Gate> UnitLocks<B, D, G> {
-    /// A MOVE MEDIUM that names one drive, with the changer's lock held.
+    /// A MOVE MEDIUM or EXCHANGE MEDIUM that names one drive, with the changer's lock held.
     fn move_one<'a, R: Wait>(
         &self,
         rt: &R,
@@ -121,7 +121,7 @@ impl<B: Ledgers, D: DeviceServer, G: Gate> UnitLocks<B, D, G> {
         }
     }
 
-    /// A command to the changer. Its lock is taken first, then those of the drives that a MOVE MEDIUM names.
+    /// A command to the changer. Its lock is taken first, then those of the drives that a MOVE MEDIUM or EXCHANGE MEDIUM names.
     pub(crate) fn step_changer<'a, R: Wait>(
         &self,
         rt: &R,

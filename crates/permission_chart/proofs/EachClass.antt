@@ -6,7 +6,7 @@ use Rattle.std.proofs.lemmas.List.Sums.{AllPass-from_list_all}
 use Rattle.std.specs.List.{Contains, list_all}
 use Rattle.permission_chart.specs.Classes.{is_host, every_class, HasEachClass}
 use Rattle.scsi_cdb.specs.declared.classes.Class.{Class}
-use Rattle.scsi_cdb.specs.declared.classes.Class.TheVariants.{TestUnitReady, RequestSense, Inquiry, ReportLuns, PersistentReserveIn, AllowRemoval, ReadBlockLimits, ReadPosition, ReadElementStatusCurdata, ModeSense, Read, Space, Locate, Rewind, ReadElementStatus, ModeSelect, PreventRemoval, Write, WriteFilemarks, Erase, LoadUnload, MoveMedium, InitializeElementStatus, Register, RegisterAndIgnoreExistingKey, Clear, Preempt, PreemptAndAbort, Release, Reserve, RegisterAndMove, SendDiagnostic, LogSelect, LogSense, ModeSelect10, ModeSense10, ReportSupportedOperationCodes, ReportSupportedTaskManagementFunctions, PositionToElement}
+use Rattle.scsi_cdb.specs.declared.classes.Class.TheVariants.{TestUnitReady, RequestSense, Inquiry, ReportLuns, PersistentReserveIn, AllowRemoval, ReadBlockLimits, ReadPosition, ReadElementStatusCurdata, ModeSense, Read, Space, Locate, Rewind, ReadElementStatus, ModeSelect, PreventRemoval, Write, WriteFilemarks, Erase, LoadUnload, MoveMedium, InitializeElementStatus, Register, RegisterAndIgnoreExistingKey, Clear, Preempt, PreemptAndAbort, Release, Reserve, RegisterAndMove, SendDiagnostic, LogSelect, LogSense, ModeSelect10, ModeSense10, ReportSupportedOperationCodes, ReportSupportedTaskManagementFunctions, PositionToElement, ExchangeMedium}
 use Rattle.scsi_cdb.specs.declared.profile.Profile.TheVariants.{Spec, Hosts}
 
 -- each class at its place
@@ -50,6 +50,7 @@ every_class_has ModeSense10 = (35, lit< tt, refl)
 every_class_has ReportSupportedOperationCodes = (36, lit< tt, refl)
 every_class_has ReportSupportedTaskManagementFunctions = (37, lit< tt, refl)
 every_class_has PositionToElement = (38, lit< tt, refl)
+every_class_has ExchangeMedium = (39, lit< tt, refl)
 
 -- and in the list of the default profile
 shared_has : (c : Class) → is_host c ≡ false → Contains (every_class Spec) c
@@ -92,6 +93,7 @@ shared_has ModeSense10 other = absurd cc
 shared_has ReportSupportedOperationCodes other = absurd cc
 shared_has ReportSupportedTaskManagementFunctions other = absurd cc
 shared_has PositionToElement other = absurd cc
+shared_has ExchangeMedium other = absurd cc
 
 -- a test that each class of the list passes
 pub each_class : (test : Class → Bool) → list_all test (every_class Hosts) ≡ true → (c : Class) → test c ≡ true

@@ -2,7 +2,7 @@
 use Rattle.std.specs.Prelude.{◌≡◌, Bool, true, false, List, [], ◌∷◌, ◌++◌}
 use Rattle.std.specs.List.{Contains}
 use Rattle.scsi_cdb.specs.declared.classes.Class.{Class}
-use Rattle.scsi_cdb.specs.declared.classes.Class.TheVariants.{TestUnitReady, RequestSense, Inquiry, ReportLuns, PersistentReserveIn, AllowRemoval, ReadBlockLimits, ReadPosition, ReadElementStatusCurdata, ModeSense, Read, Space, Locate, Rewind, ReadElementStatus, ModeSelect, PreventRemoval, Write, WriteFilemarks, Erase, LoadUnload, MoveMedium, InitializeElementStatus, Register, RegisterAndIgnoreExistingKey, Clear, Preempt, PreemptAndAbort, Release, Reserve, RegisterAndMove, SendDiagnostic, LogSelect, LogSense, ModeSelect10, ModeSense10, ReportSupportedOperationCodes, ReportSupportedTaskManagementFunctions, PositionToElement}
+use Rattle.scsi_cdb.specs.declared.classes.Class.TheVariants.{TestUnitReady, RequestSense, Inquiry, ReportLuns, PersistentReserveIn, AllowRemoval, ReadBlockLimits, ReadPosition, ReadElementStatusCurdata, ModeSense, Read, Space, Locate, Rewind, ReadElementStatus, ModeSelect, PreventRemoval, Write, WriteFilemarks, Erase, LoadUnload, MoveMedium, InitializeElementStatus, Register, RegisterAndIgnoreExistingKey, Clear, Preempt, PreemptAndAbort, Release, Reserve, RegisterAndMove, SendDiagnostic, LogSelect, LogSense, ModeSelect10, ModeSense10, ReportSupportedOperationCodes, ReportSupportedTaskManagementFunctions, PositionToElement, ExchangeMedium}
 use Rattle.scsi_cdb.specs.declared.profile.Profile.{Profile}
 use Rattle.scsi_cdb.specs.declared.profile.Profile.TheVariants.{Spec, Hosts}
 
@@ -12,7 +12,7 @@ shared_classes = TestUnitReady ∷ RequestSense ∷ Inquiry ∷ ReportLuns ∷ P
 
 -- and those that only the hosts' profile has
 abbrev pub host_classes : List Class
-host_classes = SendDiagnostic ∷ LogSelect ∷ LogSense ∷ ModeSelect10 ∷ ModeSense10 ∷ ReportSupportedOperationCodes ∷ ReportSupportedTaskManagementFunctions ∷ PositionToElement ∷ []
+host_classes = SendDiagnostic ∷ LogSelect ∷ LogSense ∷ ModeSelect10 ∷ ModeSense10 ∷ ReportSupportedOperationCodes ∷ ReportSupportedTaskManagementFunctions ∷ PositionToElement ∷ ExchangeMedium ∷ []
 
 -- the classes of the commands of a profile
 abbrev pub every_class : Profile → List Class
@@ -29,6 +29,7 @@ is_host ModeSense10 = true
 is_host ReportSupportedOperationCodes = true
 is_host ReportSupportedTaskManagementFunctions = true
 is_host PositionToElement = true
+is_host ExchangeMedium = true
 is_host class = false
 
 -- none is missing: the hosts' profile has each class, and the default one each but those that only the hosts' has, of which it has none

@@ -9,7 +9,7 @@ use scsi_cdb::{Class, Profile};
 const SHARED_CLASSES: usize = 31;
 
 /// Each class of command, in the order of [`Class`]. Those that only the hosts' profile has come last.
-const CLASSES: [Class; 39] = [
+const CLASSES: [Class; 40] = [
     Class::TestUnitReady,
     Class::RequestSense,
     Class::Inquiry,
@@ -49,6 +49,7 @@ const CLASSES: [Class; 39] = [
     Class::ReportSupportedOperationCodes,
     Class::ReportSupportedTaskManagementFunctions,
     Class::PositionToElement,
+    Class::ExchangeMedium,
 ];
 
 /// Each class of a profile's commands, in the order of [`Class`].

@@ -7,7 +7,7 @@ use Rattle.permit_tables.specs.declared.res_type.ResType.TheVariants.{None, We, 
 use Rattle.permit_tables.specs.declared.role.Role.{Role}
 use Rattle.permit_tables.specs.declared.role.Role.TheVariants.{Holder, Registered}
 use Rattle.scsi_cdb.specs.declared.classes.Class.{Class}
-use Rattle.scsi_cdb.specs.declared.classes.Class.TheVariants.{TestUnitReady, RequestSense, Inquiry, ReportLuns, PersistentReserveIn, AllowRemoval, ReadBlockLimits, ReadPosition, ReadElementStatusCurdata, ModeSense, Read, Space, Locate, Rewind, ReadElementStatus, ModeSelect, PreventRemoval, Write, WriteFilemarks, Erase, LoadUnload, MoveMedium, InitializeElementStatus, Register, RegisterAndIgnoreExistingKey, Clear, Preempt, PreemptAndAbort, Release, Reserve, RegisterAndMove, SendDiagnostic, LogSelect, LogSense, ModeSelect10, ModeSense10, ReportSupportedOperationCodes, ReportSupportedTaskManagementFunctions, PositionToElement}
+use Rattle.scsi_cdb.specs.declared.classes.Class.TheVariants.{TestUnitReady, RequestSense, Inquiry, ReportLuns, PersistentReserveIn, AllowRemoval, ReadBlockLimits, ReadPosition, ReadElementStatusCurdata, ModeSense, Read, Space, Locate, Rewind, ReadElementStatus, ModeSelect, PreventRemoval, Write, WriteFilemarks, Erase, LoadUnload, MoveMedium, InitializeElementStatus, Register, RegisterAndIgnoreExistingKey, Clear, Preempt, PreemptAndAbort, Release, Reserve, RegisterAndMove, SendDiagnostic, LogSelect, LogSense, ModeSelect10, ModeSense10, ReportSupportedOperationCodes, ReportSupportedTaskManagementFunctions, PositionToElement, ExchangeMedium}
 
 -- A: allowed; C: a conflict
 abbrev pub A : Bool
@@ -83,6 +83,7 @@ group_of ModeSelect10 = Changing
 group_of LogSelect = Changing
 group_of SendDiagnostic = Changing
 group_of PositionToElement = Changing
+group_of ExchangeMedium = Changing
 
 -- a row of the table, by its letters in the columns' order
 abbrev pub letter : (i ii iii iv v : Bool) → Column → Bool

@@ -78,4 +78,7 @@ pub record PermissionRows : Type 0 where
   pub position_ea : is_allowed class.PositionToElement Ea Registered ≡ false
   pub position_wear : is_allowed class.PositionToElement Wear Other ≡ false
   pub position_wero : is_allowed class.PositionToElement Wero Registered ≡ true
+  pub exchange_we : is_allowed class.ExchangeMedium We Registered ≡ false
+  pub exchange_earo : is_allowed class.ExchangeMedium Earo Other ≡ false
+  pub exchange_eaar : is_allowed class.ExchangeMedium Eaar Registered ≡ true
   pub text : cell_text (record { class = class.ModeSense; res_type = Earo; role = Registered }) ≡ codes "MODE-SENSE(6)/EARO/REGISTERED"

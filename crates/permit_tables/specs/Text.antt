@@ -6,7 +6,7 @@ use Rattle.permit_tables.specs.declared.role.Role.{Role}
 use Rattle.permit_tables.specs.declared.role.Role.TheVariants.{Holder, Registered, Other}
 use Rattle.permit_tables.specs.declared.cell.Cell.{Cell}
 use Rattle.scsi_cdb.specs.declared.classes.Class.{Class}
-use Rattle.scsi_cdb.specs.declared.classes.Class.TheVariants.{TestUnitReady, RequestSense, Inquiry, ReportLuns, PersistentReserveIn, AllowRemoval, ReadBlockLimits, ReadPosition, ReadElementStatusCurdata, ModeSense, Read, Space, Locate, Rewind, ReadElementStatus, ModeSelect, PreventRemoval, Write, WriteFilemarks, Erase, LoadUnload, MoveMedium, InitializeElementStatus, Register, RegisterAndIgnoreExistingKey, Clear, Preempt, PreemptAndAbort, Release, Reserve, RegisterAndMove, SendDiagnostic, LogSelect, LogSense, ModeSelect10, ModeSense10, ReportSupportedOperationCodes, ReportSupportedTaskManagementFunctions, PositionToElement}
+use Rattle.scsi_cdb.specs.declared.classes.Class.TheVariants.{TestUnitReady, RequestSense, Inquiry, ReportLuns, PersistentReserveIn, AllowRemoval, ReadBlockLimits, ReadPosition, ReadElementStatusCurdata, ModeSense, Read, Space, Locate, Rewind, ReadElementStatus, ModeSelect, PreventRemoval, Write, WriteFilemarks, Erase, LoadUnload, MoveMedium, InitializeElementStatus, Register, RegisterAndIgnoreExistingKey, Clear, Preempt, PreemptAndAbort, Release, Reserve, RegisterAndMove, SendDiagnostic, LogSelect, LogSense, ModeSelect10, ModeSense10, ReportSupportedOperationCodes, ReportSupportedTaskManagementFunctions, PositionToElement, ExchangeMedium}
 
 abbrev pub class_name : Class → List ℕ
 class_name TestUnitReady = codes "TEST-UNIT-READY"
@@ -48,6 +48,7 @@ class_name ModeSense10 = codes "MODE-SENSE(10)"
 class_name ReportSupportedOperationCodes = codes "REPORT-OPCODES"
 class_name ReportSupportedTaskManagementFunctions = codes "REPORT-TASK-MANAGEMENT"
 class_name PositionToElement = codes "POSITION-TO-ELEMENT"
+class_name ExchangeMedium = codes "EXCHANGE-MEDIUM"
 
 abbrev pub type_name : ResType → List ℕ
 type_name None = codes "NONE"

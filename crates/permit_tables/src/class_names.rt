@@ -47,5 +47,6 @@ pub fn class_text(class: Class) -> &'static str
         Class::ReportSupportedOperationCodes => "REPORT-OPCODES",
         Class::ReportSupportedTaskManagementFunctions => "REPORT-TASK-MANAGEMENT",
         Class::PositionToElement => "POSITION-TO-ELEMENT",
+        Class::ExchangeMedium => "EXCHANGE-MEDIUM",
     }
 }

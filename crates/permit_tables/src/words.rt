@@ -63,7 +63,8 @@ pub fn word(class: Class) -> u32
         | Class::ModeSelect10
         | Class::LogSelect
         | Class::SendDiagnostic
-        | Class::PositionToElement => WRITERS,
+        | Class::PositionToElement
+        | Class::ExchangeMedium => WRITERS,
         Class::Clear | Class::Preempt | Class::PreemptAndAbort | Class::Release => REGISTRANTS,
         Class::Reserve | Class::RegisterAndMove => HOLDERS,
     }

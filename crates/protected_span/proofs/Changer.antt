@@ -8,9 +8,9 @@ use Rattle.scsi_sense.specs.declared.status.Status.TheVariants.{Busy}
 use Rattle.device_server.specs.View.{DeviceView, commands_of, drives_of}
 use Rattle.device_server.proofs.SameDevice.{same_commands}
 use Rattle.judgement.specs.declared.reply.Reply.{Reply}
-use Rattle.logical_unit.specs.Move.{TwoDrives, route_at, carried_one, carried_two, MovesOne, MovesTwo}
-use Rattle.logical_unit.specs.Route.{named}
-use Rattle.logical_unit.specs.Step.{Executes, HasNumber}
+use Rattle.logical_unit.specs.Move.{TwoDrives, errand_at, carried_one, carried_two, MovesOne, MovesTwo}
+use Rattle.logical_unit.specs.Route.{named, records_of}
+use Rattle.logical_unit.specs.Step.{Executes, HasNumber, HasNumbers}
 use Rattle.logical_unit.specs.UnitView.{UnitView}
 use Rattle.logical_unit.proofs.SameUnits.{one_same, two_same}
 use Rattle.permit_tables.specs.Permission.{Changing, row_allows}
@@ -140,8 +140,8 @@ module _ (lun : ℕ) (inside : Nexus → Bool) (exact : Nexus → (cdb bytes : L
       let apart = no_drive c.device cdb l names in
       let changers = at_place lun Rel us ws 0 (Some c) (Some g) first second lists in
       let drives = at_place lun Rel us ws l (Some d) (Some o) low high lists in
-      let x = ended_is c a.changer n cdb bytes r d a.other (carried_one c.device d (route_at c cdb)) (HasNumber d) free a.step in
-      let y = ended_is g b.changer n cdb bytes q o b.other (carried_one g.device o (route_at g cdb)) (HasNumber o) loose b.step in
+      let x = ended_is c a.changer n cdb bytes r d a.other (carried_one c.device d (errand_at c cdb)) (HasNumbers d (records_of (errand_at c cdb))) free a.step in
+      let y = ended_is g b.changer n cdb bytes q o b.other (carried_one g.device o (errand_at g cdb)) (HasNumbers o (records_of (errand_at g cdb))) loose b.step in
       elim (0 == lun) as (λ t. (0 == lun) ≡ t → Stepped ms ns (if t then exact n cdb bytes else true) (not t) r q) [
         | true ↦ λ e.
             let same : 0 ≡ lun = exact_unsigned_eq 0 lun e in
@@ -150,18 +150,18 @@ module _ (lun : ℕ) (inside : Nexus → Bool) (exact : Nexus → (cdb bytes : L
             let go = goes c a.changer (ap (slice_get us) (sym same) ∙ first) after in
             let away : (l == lun) ≡ false = test_of l lun (λ p. apart (p ∙ sym same)) in
             let alike = along.looks c g (changers.here e) in
-            let carried : carried_one c.device d (route_at c cdb) ≡ carried_one g.device o (route_at g cdb) =
-            ap (λ (z : UnitView). carried_one c.device z (route_at c cdb)) (drives.away away) ∙ ap (λ (z : DeviceView). carried_one z o (route_at (record c { device = z }) cdb)) alike in
-            let k = along.move_one c a.changer g b.changer n cdb bytes r q o a.other b.other (carried_one c.device d (route_at c cdb)) (carried_one g.device o (route_at g cdb)) (is e) (changers.here e) go.0 (go.1 e) (same_commands c.device a.changer.device (one_same c d a.changer a.other n cdb bytes r l [] names a.step).0.device) carried
-            (subst (λ (z : UnitView). Ended c a.changer n cdb bytes r z a.other (carried_one c.device d (route_at c cdb))) (drives.away away) x) y in
+            let carried : carried_one c.device d (errand_at c cdb) ≡ carried_one g.device o (errand_at g cdb) =
+            ap (λ (z : UnitView). carried_one c.device z (errand_at c cdb)) (drives.away away) ∙ ap (λ (z : DeviceView). carried_one z o (errand_at (record c { device = z }) cdb)) alike in
+            let k = along.move_one c a.changer g b.changer n cdb bytes r q o a.other b.other (carried_one c.device d (errand_at c cdb)) (carried_one g.device o (errand_at g cdb)) (is e) (changers.here e) go.0 (go.1 e) (same_commands c.device a.changer.device (one_same c d a.changer a.other n cdb bytes r l [] names a.step).0.device) carried
+            (subst (λ (z : UnitView). Ended c a.changer n cdb bytes r z a.other (carried_one c.device d (errand_at c cdb))) (drives.away away) x) y in
             record {
               lists = lists_of a b (record { here = λ _. k.0; away = λ no. barred (0 == lun) e no }) (record { here = λ yes. barred (l == lun) yes away; away = λ _. k.2 });
               reply = k.1;
             }
         | false ↦ λ e.
-            let w = subst (λ (z : UnitView). Ended z a.changer n cdb bytes r d a.other (carried_one z.device d (route_at z cdb))) (changers.away e) x in
-            let alike = one_alike (At lun Rel l) (takes_at lun Rel l along.medium) g.device d o (route_at g cdb) drives in
-            let end = same_changer (At lun Rel l) g a.changer b.changer n cdb bytes r q d o a.other b.other (carried_one g.device d (route_at g cdb)) (carried_one g.device o (route_at g cdb)) drives alike w y in
+            let w = subst (λ (z : UnitView). Ended z a.changer n cdb bytes r d a.other (carried_one z.device d (errand_at z cdb))) (changers.away e) x in
+            let alike = one_alike (At lun Rel l) (takes_at lun Rel l along.medium) g.device d o (errand_at g cdb) drives in
+            let end = same_changer (At lun Rel l) g a.changer b.changer n cdb bytes r q d o a.other b.other (carried_one g.device d (errand_at g cdb)) (carried_one g.device o (errand_at g cdb)) drives alike w y in
             record {
               lists = lists_of a b (record { here = λ yes. barred (0 == lun) yes e; away = λ _. end.unit }) end.drives;
               reply = reply_same true true r q end.reply;
@@ -185,8 +185,8 @@ module _ (lun : ℕ) (inside : Nexus → Bool) (exact : Nexus → (cdb bytes : L
       let changers = at_place lun Rel us ws 0 (Some c) (Some g) first second lists in
       let lows = at_place lun Rel us ws l (Some ds.low) (Some os.low) low low2 lists in
       let highs = at_place lun Rel us ws m (Some ds.high) (Some os.high) high high2 lists in
-      let x = ended_is c a.changer n cdb bytes r ds a.drives (carried_two c.device ds (route_at c cdb)) (HasNumber ds.low × HasNumber ds.high) free a.step in
-      let y = ended_is g b.changer n cdb bytes q os b.drives (carried_two g.device os (route_at g cdb)) (HasNumber os.low × HasNumber os.high) loose b.step in
+      let x = ended_is c a.changer n cdb bytes r ds a.drives (carried_two c.device ds (errand_at c cdb)) (HasNumber ds.low × HasNumber ds.high) free a.step in
+      let y = ended_is g b.changer n cdb bytes q os b.drives (carried_two g.device os (errand_at g cdb)) (HasNumber os.low × HasNumber os.high) loose b.step in
       elim (0 == lun) as (λ t. (0 == lun) ≡ t → Stepped ms ns (if t then exact n cdb bytes else true) (not t) r q) [
         | true ↦ λ e.
             let same : 0 ≡ lun = exact_unsigned_eq 0 lun e in
@@ -199,20 +199,20 @@ module _ (lun : ℕ) (inside : Nexus → Bool) (exact : Nexus → (cdb bytes : L
             let off : (m == lun) ≡ false = test_of m lun (λ p. far (p ∙ sym same)) in
             let pair : ds ≡ os = λ i. record { low = lows.away away i; high = highs.away off i } in
             let alike = along.looks c g (changers.here e) in
-            let carried : carried_two c.device ds (route_at c cdb) ≡ carried_two g.device os (route_at g cdb) =
-            ap (λ (z : TwoDrives). carried_two c.device z (route_at c cdb)) pair ∙ ap (λ (z : DeviceView). carried_two z os (route_at (record c { device = z }) cdb)) alike in
-            let k = along.move_two c a.changer g b.changer n cdb bytes r q os a.drives b.drives (carried_two c.device ds (route_at c cdb)) (carried_two g.device os (route_at g cdb)) (is e) (changers.here e) go.0 (go.1 e) (same_commands c.device a.changer.device (two_same c a.changer ds a.drives n cdb bytes r l (m ∷ more) names a.step).0.device) carried
-            (subst (λ (z : TwoDrives). Ended c a.changer n cdb bytes r z a.drives (carried_two c.device ds (route_at c cdb))) pair x) y in
+            let carried : carried_two c.device ds (errand_at c cdb) ≡ carried_two g.device os (errand_at g cdb) =
+            ap (λ (z : TwoDrives). carried_two c.device z (errand_at c cdb)) pair ∙ ap (λ (z : DeviceView). carried_two z os (errand_at (record c { device = z }) cdb)) alike in
+            let k = along.move_two c a.changer g b.changer n cdb bytes r q os a.drives b.drives (carried_two c.device ds (errand_at c cdb)) (carried_two g.device os (errand_at g cdb)) (is e) (changers.here e) go.0 (go.1 e) (same_commands c.device a.changer.device (two_same c a.changer ds a.drives n cdb bytes r l (m ∷ more) names a.step).0.device) carried
+            (subst (λ (z : TwoDrives). Ended c a.changer n cdb bytes r z a.drives (carried_two c.device ds (errand_at c cdb))) pair x) y in
             record {
               lists = lists_of a b (record { here = λ _. k.0; away = λ no. barred (0 == lun) e no }) (record { here = λ yes. barred (l == lun) yes away; away = λ _. ap (λ (z : TwoDrives). z.low) k.2 })
                   (record { here = λ yes. barred (m == lun) yes off; away = λ _. ap (λ (z : TwoDrives). z.high) k.2 });
               reply = k.1;
             }
         | false ↦ λ e.
-            let w = subst (λ (z : UnitView). Ended z a.changer n cdb bytes r ds a.drives (carried_two z.device ds (route_at z cdb))) (changers.away e) x in
+            let w = subst (λ (z : UnitView). Ended z a.changer n cdb bytes r ds a.drives (carried_two z.device ds (errand_at z cdb))) (changers.away e) x in
             let Q = BothDrives (At lun Rel l) (At lun Rel m) in
-            let alike = two_alike (At lun Rel l) (At lun Rel m) (takes_at lun Rel l along.medium) (takes_at lun Rel m along.medium) g.device ds os (route_at g cdb) (lows, highs) in
-            let end = same_changer Q g a.changer b.changer n cdb bytes r q ds os a.drives b.drives (carried_two g.device ds (route_at g cdb)) (carried_two g.device os (route_at g cdb)) (lows, highs) alike w y in
+            let alike = two_alike (At lun Rel l) (At lun Rel m) (takes_at lun Rel l along.medium) (takes_at lun Rel m along.medium) g.device ds os (errand_at g cdb) (lows, highs) in
+            let end = same_changer Q g a.changer b.changer n cdb bytes r q ds os a.drives b.drives (carried_two g.device ds (errand_at g cdb)) (carried_two g.device os (errand_at g cdb)) (lows, highs) alike w y in
             record {
               lists = lists_of a b (record { here = λ yes. barred (0 == lun) yes e; away = λ _. end.unit }) end.drives.0 end.drives.1;
               reply = reply_same true true r q end.reply;

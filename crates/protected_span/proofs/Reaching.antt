@@ -23,8 +23,8 @@ use Rattle.audit_log.specs.declared.record.Record.{Record}
 use Rattle.device_server.specs.View.{DeviceView, commands_of, drives_of}
 use Rattle.judgement.specs.declared.reply.Reply.{Reply}
 use Rattle.logical_unit.specs.Medium.{taken_out, put_in}
-use Rattle.logical_unit.specs.Move.{TwoDrives, is_left, judged_at, route_at, carried_one, carried_two, MovesOne, MovesTwo}
-use Rattle.logical_unit.specs.Step.{Executes, IsLost, IsReset, HasNumber, answered, resets, drained}
+use Rattle.logical_unit.specs.Move.{TwoDrives, is_left, judged_at, errand_at, carried_one, carried_two, MovesOne, MovesTwo}
+use Rattle.logical_unit.specs.Step.{Executes, IsLost, IsReset, HasNumber, HasNumbers, answered, resets, drained}
 use Rattle.logical_unit.specs.UnitView.{UnitView}
 use Rattle.logical_unit.specs.declared.medium_fault.MediumFault.{MediumFault}
 use Rattle.logical_unit.proofs.SameUnits.{out_same, in_same}
@@ -37,7 +37,7 @@ use Rattle.protected_span.proofs.InsidersView.{IsTable}
 use Rattle.protected_span.proofs.Carry.{Same, With, Takes, BothDrives, one_alike, two_alike}
 use Rattle.protected_span.proofs.Changes.{Change, executes_changes, change_table}
 use Rattle.protected_span.proofs.Ended.{Ended, MovesBy, end_drives, end_of_move, ended_changes}
-use Rattle.logical_unit.specs.Route.{named}
+use Rattle.logical_unit.specs.Route.{named, records_of}
 use Rattle.target_core.proofs.Places.{same_some}
 use Rattle.protected_span.proofs.Places.{apart_of}
 use Rattle.protected_span.proofs.RoomOfStruckRuns.{Roomy, roomy_self, strike_roomy, lose_roomy, reset_roomy}
@@ -152,20 +152,20 @@ by_busy {A} P c v n cdb bytes r drives after x N same ended (inr e) = ended (end
 
 one_reaches : (c d v e : UnitView) (n : Nexus) (cdb bytes : List ℕ) (r : Reply) → IsReached c → IsReached d → MovesOne c d n cdb bytes ((v, r), e) → IsReached v × IsReached e
 one_reaches c d v e n cdb bytes r hc hd moves =
-    let x = carried_one c.device d (route_at c cdb) in
-    by_busy (λ v e. IsReached v × IsReached e) c v n cdb bytes r d e x (HasNumber d) (hc, hd)
+    let x = carried_one c.device d (errand_at c cdb) in
+    by_busy (λ v e. IsReached v × IsReached e) c v n cdb bytes r d e x (HasNumbers d (records_of (errand_at c cdb))) (hc, hd)
     (λ a. (
       ended_reaches c v n cdb bytes r d e x hc a,
-      subst IsReached (sym a.drives_are) (drive_by (is_left (judged_at c n cdb bytes).2.sense) d x hd (one_alike Self self_takes c.device d d (route_at c cdb) (refl, hd))),
+      subst IsReached (sym a.drives_are) (drive_by (is_left (judged_at c n cdb bytes).2.sense) d x hd (one_alike Self self_takes c.device d d (errand_at c cdb) (refl, hd))),
     )) moves
 
 two_reach : (c v : UnitView) (ds es : TwoDrives) (n : Nexus) (cdb bytes : List ℕ) (r : Reply) → IsReached c → AreBoth ds → MovesTwo c ds n cdb bytes ((v, r), es) → IsReached v × AreBoth es
 two_reach c v ds es n cdb bytes r hc hd moves =
-    let x = carried_two c.device ds (route_at c cdb) in
+    let x = carried_two c.device ds (errand_at c cdb) in
     by_busy (λ v es. IsReached v × AreBoth es) c v n cdb bytes r ds es x (HasNumber ds.low × HasNumber ds.high) (hc, hd)
     (λ a. (
       ended_reaches c v n cdb bytes r ds es x hc a,
-      subst AreBoth (sym a.drives_are) (drives_by (is_left (judged_at c n cdb bytes).2.sense) ds x hd (two_alike Self Self self_takes self_takes c.device ds ds (route_at c cdb) ((refl, hd.0), (refl, hd.1)))),
+      subst AreBoth (sym a.drives_are) (drives_by (is_left (judged_at c n cdb bytes).2.sense) ds x hd (two_alike Self Self self_takes self_takes c.device ds ds (errand_at c cdb) ((refl, hd.0), (refl, hd.1)))),
     )) moves
 
 -- A LOSS, AND A RESET

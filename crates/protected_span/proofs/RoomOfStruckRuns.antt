@@ -15,7 +15,7 @@ use Rattle.judgement.specs.Commands.{decoded_command}
 use Rattle.judgement.specs.Replies.{busy}
 use Rattle.logical_unit.specs.UnitView.{UnitView, last_number}
 use Rattle.judgement.specs.UnitState.{has_room}
-use Rattle.logical_unit.specs.Step.{contacted_present, Executes, answered, loses, resets, LosesAs, HasNumber}
+use Rattle.logical_unit.specs.Step.{contacted_present, Executes, answered, loses, resets, LosesAs, HasNumber, HasNumbers}
 use Rattle.logical_unit.specs.Step.{IsLost, IsReset, event_reply, number_or_0}
 use Rattle.protected_span.proofs.Units.{not_busy}
 use Rattle.unit_attention.proofs.SlotOf.{has_slot-contacted, length-contacted, sorted-contacted}
@@ -109,6 +109,9 @@ room_too f g n same h room = ap (λ b. b || not (length g.state.slots == 128)) s
 
 pub number_too : (f g : UnitView) → Roomy f g → HasNumber f → HasNumber g
 number_too f g h number = omega (arith, h.number, number)
+
+pub numbers_too : (f g : UnitView) (count : ℕ) → Roomy f g → HasNumbers f count → HasNumbers g count
+numbers_too f g count h number = omega (arith, h.number, number)
 
 -- so what was served at the one may be served at the other
 pub serve_command : (f v g : UnitView) (n : Nexus) (cdb bytes : List ℕ) (r : Reply) → has_slot g.state.slots n ≡ has_slot f.state.slots n → Roomy f g → r.status ≢ Busy → Executes f n cdb bytes (v, r) → Executes g n cdb bytes (answered g n cdb bytes)

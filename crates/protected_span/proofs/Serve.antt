@@ -11,9 +11,9 @@ use Rattle.judgement.proofs.Carried.{judged_free}
 use Rattle.judgement.specs.declared.reply.Reply.{Reply}
 use Rattle.judgement.specs.Commands.{decoded_command}
 use Rattle.judgement.specs.UnitState.{has_room}
-use Rattle.logical_unit.specs.Move.{TwoDrives, is_left, judged_at, route_at, concluded, carried_one, carried_two, moved_one, moved_two, MovesOne, MovesTwo}
-use Rattle.logical_unit.specs.Route.{named}
-use Rattle.logical_unit.specs.Step.{Executes, IsLost, IsReset, HasNumber, answered, contacted_present}
+use Rattle.logical_unit.specs.Move.{TwoDrives, is_left, judged_at, errand_at, concluded, carried_one, carried_two, moved_one, moved_two, MovesOne, MovesTwo}
+use Rattle.logical_unit.specs.Route.{named, records_of}
+use Rattle.logical_unit.specs.Step.{Executes, IsLost, IsReset, HasNumber, HasNumbers, answered, contacted_present}
 use Rattle.logical_unit.specs.UnitView.{UnitView}
 use Rattle.logical_unit.proofs.History.{answers_no_busy}
 use Rattle.target_core.specs.declared.event.Event.{Event}
@@ -27,7 +27,7 @@ use Rattle.protected_span.proofs.Changer.{Goes, looks_at, no_drive, no_drives}
 use Rattle.protected_span.proofs.Ended.{concluded_is, end_free, ended_is, ended_numbers}
 use Rattle.protected_span.proofs.StruckRuns.{struck_event, kept_event}
 use Rattle.protected_span.proofs.Places.{Lists, At, BothAt, at_place, takes_at}
-use Rattle.protected_span.proofs.RoomOfStruckRuns.{room_too, number_too, serve_command, serve_loss, serve_reset}
+use Rattle.protected_span.proofs.RoomOfStruckRuns.{room_too, number_too, numbers_too, serve_command, serve_loss, serve_reset}
 use Rattle.protected_span.proofs.RelatedWithRoom.{Roomed, with_room}
 
 same_ok : {A E : Type 0} (R : A → A → Type 0) (o p : Result A E) → Same R o p → is_ok o ≡ is_ok p
@@ -44,8 +44,8 @@ concluded_free {A} c n cdb bytes drives carried =
     (end_free c n cdb bytes drives answer (is_left answer.2.sense) carried (judged_free (contacted_present c n) n (decoded_command (commands_of c.device) cdb bytes) bytes))
 
 -- the drives of a carried volume have numbers in the other run
-numbers_too : {A B : Type 0} (a b : Bool) (x : Result A Condition) (y : Result B Condition) (N M : Type 0) → a ≡ b → is_ok x ≡ is_ok y → ((a && is_ok x) ≡ true → N) → (N → M) → (b && is_ok y) ≡ true → M
-numbers_too a b x y N M left ok numbers then both = then (numbers ((λ i. left i && ok i) ∙ both))
+both_numbers : {A B : Type 0} (a b : Bool) (x : Result A Condition) (y : Result B Condition) (N M : Type 0) → a ≡ b → is_ok x ≡ is_ok y → ((a && is_ok x) ≡ true → N) → (N → M) → (b && is_ok y) ≡ true → M
+both_numbers a b x y N M left ok numbers then both = then (numbers ((λ i. left i && ok i) ∙ both))
 
 -- a served step of the other run
 record Next (ws : List UnitView) (e : Event) : Type 0 where
@@ -86,6 +86,13 @@ module _ (lun : ℕ) (inside : Nexus → Bool) (exact : Nexus → (cdb bytes : L
         | false ↦ λ e. subst (λ (z : UnitView). HasNumber z) (a.away e) h
       ] refl
 
+  numbers_next : (k : ℕ) (x y : UnitView) (count : ℕ) → At lun R k x y → HasNumbers x count → HasNumbers y count
+  numbers_next k x y count a h =
+      elim (k == lun) as (λ b. (k == lun) ≡ b → HasNumbers y count) [
+        | true ↦ λ e. numbers_too x y count (a.here e).room h
+        | false ↦ λ e. subst (λ (z : UnitView). HasNumbers z count) (a.away e) h
+      ] refl
+
   left_next : (k : ℕ) (x v y : UnitView) (n : Nexus) (cdb bytes : List ℕ) → At lun R k x y → ((k == lun) ≡ true → inside n ≡ true) → ((k == lun) ≡ true → May n cdb bytes x v) → is_left (judged_at x n cdb bytes).2.sense ≡ is_left (judged_at y n cdb bytes).2.sense
   left_next k x v y n cdb bytes a is may =
       elim (k == lun) as (λ b. (k == lun) ≡ b → is_left (judged_at x n cdb bytes).2.sense ≡ is_left (judged_at y n cdb bytes).2.sense) [
@@ -123,13 +130,17 @@ module _ (lun : ℕ) (inside : Nexus → Bool) (exact : Nexus → (cdb bytes : L
   one_next : (us ws ms : List UnitView) (l : ℕ) (c g d o : UnitView) (n : Nexus) (cdb bytes : List ℕ) (r : Reply) → slice_get us 0 ≡ Some c → At lun R 0 c g → At lun R l d o → l ≢ 0 → ((0 == lun) ≡ true → inside n ≡ true) → GoesOn us ms 0 n cdb bytes → r.status ≢ Busy
       → AtDrive us l (MovesOne c d n cdb bytes) (ms, r) → NextAs (AtDrive ws l (MovesOne g o n cdb bytes))
   one_next us ws ms l c g d o n cdb bytes r first changers drives apart is goes free a =
-      let x = carried_one c.device d (route_at c cdb) in
-      let y = carried_one g.device o (route_at g cdb) in
-      let had = ended_is c a.changer n cdb bytes r d a.other x (HasNumber d) free a.step in
+      let x = carried_one c.device d (errand_at c cdb) in
+      let y = carried_one g.device o (errand_at g cdb) in
+      let looks = looks_at lun inside exact Kept May R along 0 c g changers in
+      let count : records_of (errand_at c cdb) ≡ records_of (errand_at g cdb) = ap (λ (z : DeviceView). records_of (errand_at (record c { device = z }) cdb)) looks in
+      let N = HasNumbers d (records_of (errand_at c cdb)) in
+      let M = HasNumbers o (records_of (errand_at g cdb)) in
+      let had = ended_is c a.changer n cdb bytes r d a.other x N free a.step in
       let after : slice_get ms 0 ≡ Some a.changer = ap (λ (xs : List UnitView). slice_get xs 0) a.units ∙ get-set_other (slice_set us 0 a.changer) l 0 a.other apart ∙ get-set_same us 0 a.changer c first in
       let ok : is_ok x ≡ is_ok y =
-      ap (λ (z : DeviceView). is_ok (carried_one z d (route_at (record c { device = z }) cdb))) (looks_at lun inside exact Kept May R along 0 c g changers)
-      ∙ same_ok (With (At lun R l)) (carried_one g.device d (route_at g cdb)) y (one_alike (At lun R l) (takes_at lun R l along.medium) g.device d o (route_at g cdb) drives) in
+      ap (λ (z : DeviceView). is_ok (carried_one z d (errand_at (record c { device = z }) cdb))) looks
+      ∙ same_ok (With (At lun R l)) (carried_one g.device d (errand_at g cdb)) y (one_alike (At lun R l) (takes_at lun R l along.medium) g.device d o (errand_at g cdb) drives) in
       let new = moved_one g o n cdb bytes in
       record {
         units = slice_set (slice_set ws 0 new.0.0) l new.1;
@@ -140,8 +151,9 @@ module _ (lun : ℕ) (inside : Nexus → Bool) (exact : Nexus → (cdb bytes : L
           step = inr (
             room_next 0 c g n changers is had.room,
             number_next 0 c g changers had.number,
-            numbers_too (is_left (judged_at c n cdb bytes).2.sense) (is_left (judged_at g n cdb bytes).2.sense) x y (HasNumber d) (HasNumber o) (left_next 0 c a.changer g n cdb bytes changers is (may_at us ms 0 c a.changer n cdb bytes first after goes)) ok
-                (ended_numbers c a.changer n cdb bytes r d a.other x (HasNumber d) free a.step) (number_next l d o drives),
+            both_numbers (is_left (judged_at c n cdb bytes).2.sense) (is_left (judged_at g n cdb bytes).2.sense) x y N M (left_next 0 c a.changer g n cdb bytes changers is (may_at us ms 0 c a.changer n cdb bytes first after goes)) ok
+                (ended_numbers c a.changer n cdb bytes r d a.other x N free a.step)
+                (λ h. numbers_next l d o (records_of (errand_at g cdb)) drives (subst (HasNumbers d) count h)),
             refl,
           );
           units = refl;
@@ -154,15 +166,15 @@ module _ (lun : ℕ) (inside : Nexus → Bool) (exact : Nexus → (cdb bytes : L
       → ((0 == lun) ≡ true → inside n ≡ true) → GoesOn us ms 0 n cdb bytes → r.status ≢ Busy → AtDrives us l m (MovesTwo c ds n cdb bytes) (ms, r) → NextAs (AtDrives ws l m (MovesTwo g os n cdb bytes))
   two_next us ws ms l m c g ds os n cdb bytes r first changers lows highs apart far is goes free a =
       let N = HasNumber ds.low × HasNumber ds.high in
-      let x = carried_two c.device ds (route_at c cdb) in
-      let y = carried_two g.device os (route_at g cdb) in
+      let x = carried_two c.device ds (errand_at c cdb) in
+      let y = carried_two g.device os (errand_at g cdb) in
       let had = ended_is c a.changer n cdb bytes r ds a.drives x N free a.step in
       let xs = slice_set us 0 a.changer in
       let after : slice_get ms 0 ≡ Some a.changer =
       ap (λ (zs : List UnitView). slice_get zs 0) a.units ∙ get-set_other (slice_set xs l a.drives.low) m 0 a.drives.high far ∙ get-set_other xs l 0 a.drives.low apart ∙ get-set_same us 0 a.changer c first in
       let ok : is_ok x ≡ is_ok y =
-      ap (λ (z : DeviceView). is_ok (carried_two z ds (route_at (record c { device = z }) cdb))) (looks_at lun inside exact Kept May R along 0 c g changers)
-      ∙ same_ok (With (BothDrives (At lun R l) (At lun R m))) (carried_two g.device ds (route_at g cdb)) y (two_alike (At lun R l) (At lun R m) (takes_at lun R l along.medium) (takes_at lun R m along.medium) g.device ds os (route_at g cdb) (lows, highs)) in
+      ap (λ (z : DeviceView). is_ok (carried_two z ds (errand_at (record c { device = z }) cdb))) (looks_at lun inside exact Kept May R along 0 c g changers)
+      ∙ same_ok (With (BothDrives (At lun R l) (At lun R m))) (carried_two g.device ds (errand_at g cdb)) y (two_alike (At lun R l) (At lun R m) (takes_at lun R l along.medium) (takes_at lun R m along.medium) g.device ds os (errand_at g cdb) (lows, highs)) in
       let new = moved_two g os n cdb bytes in
       record {
         units = slice_set (slice_set (slice_set ws 0 new.0.0) l new.1.low) m new.1.high;
@@ -173,7 +185,7 @@ module _ (lun : ℕ) (inside : Nexus → Bool) (exact : Nexus → (cdb bytes : L
           step = inr (
             room_next 0 c g n changers is had.room,
             number_next 0 c g changers had.number,
-            numbers_too (is_left (judged_at c n cdb bytes).2.sense) (is_left (judged_at g n cdb bytes).2.sense) x y N (HasNumber os.low × HasNumber os.high) (left_next 0 c a.changer g n cdb bytes changers is (may_at us ms 0 c a.changer n cdb bytes first after goes)) ok
+            both_numbers (is_left (judged_at c n cdb bytes).2.sense) (is_left (judged_at g n cdb bytes).2.sense) x y N (HasNumber os.low × HasNumber os.high) (left_next 0 c a.changer g n cdb bytes changers is (may_at us ms 0 c a.changer n cdb bytes first after goes)) ok
                 (ended_numbers c a.changer n cdb bytes r ds a.drives x N free a.step) (λ both. (number_next l ds.low os.low lows both.0, number_next m ds.high os.high highs both.1)),
             refl,
           );

@@ -47,6 +47,7 @@ wish_of class.ModeSense10 immediate = Nothing
 wish_of class.ReportSupportedOperationCodes immediate = Nothing
 wish_of class.ReportSupportedTaskManagementFunctions immediate = Nothing
 wish_of class.PositionToElement immediate = Nothing
+wish_of class.ExchangeMedium immediate = Move
 
 -- whether the reply waits
 abbrev pub is_waited_for : Wish → Bool

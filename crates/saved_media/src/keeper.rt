@@ -142,7 +142,8 @@ impl<S: ImageStore + Drop, N: InventoryStore + Drop> MediaKeeper<S, N> {
         }
     }
 
-    /// Asks that the volume be kept that a MOVE MEDIUM moved, and no other, and where the volumes are.
+    /// Asks that the volume be kept that a MOVE MEDIUM moved, or that a drive gave in an EXCHANGE MEDIUM, and no other, and where the
+    /// volumes are.
     fn begin_move<R: Wait, H: KeepListener>(
         &self,
         rt: &R,

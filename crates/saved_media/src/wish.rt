@@ -13,14 +13,13 @@ pub(crate) enum Wish {
     Volume,
     /// The same, but the reply doesn't wait for it.
     VolumeBehind,
-    /// All of the volume that was moved, and where the volumes are, before the reply goes out.
+    /// All of the volume that was moved, of an exchange the one that a drive gave, and where the volumes are, before the reply goes out.
     Move,
 }
 
-/// WRITE(6) is copied in the background (SSC-4, "WRITE(6) command"). WRITE FILEMARKS(6), also of none, ERASE(6), LOAD UNLOAD and MOVE MEDIUM
-/// are kept before they are answered: a host takes what is before them for written (SSC-4, "WRITE FILEMARKS(6) command", and
-/// profile). With IMMED a WRITE FILEMARKS(6) is kept as soon, but not waited for. No other changes a tape, or where a volume is, also none that
-/// only the hosts' profile has.
+/// WRITE(6) is copied in the background (SSC-4, "WRITE(6) command"). WRITE FILEMARKS(6), also of none, ERASE(6), LOAD UNLOAD, MOVE MEDIUM and
+/// EXCHANGE MEDIUM are kept before they are answered: a host takes what is before them for written (SSC-4, "WRITE FILEMARKS(6) command", and
+/// profile). With IMMED a WRITE FILEMARKS(6) is kept as soon, but not waited for. No other changes a tape, or where a volume is.
 pub(crate) fn wish_of(class: Class, is_immediate: bool) -> Wish
     ensures { result ≡ wish_of class is_immediate }
 {
@@ -28,7 +27,7 @@ pub(crate) fn wish_of(class: Class, is_immediate: bool) -> Wish
         Class::Write => Wish::Behind,
         Class::WriteFilemarks if is_immediate => Wish::VolumeBehind,
         Class::WriteFilemarks | Class::Erase | Class::LoadUnload => Wish::Volume,
-        Class::MoveMedium => Wish::Move,
+        Class::MoveMedium | Class::ExchangeMedium => Wish::Move,
         Class::TestUnitReady
         | Class::RequestSense
         | Class::Inquiry

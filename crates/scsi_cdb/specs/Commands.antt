@@ -2,7 +2,7 @@
 -- have it, and its fields.
 use Rattle.std.specs.Prelude.{ℕ, ◌-◌, ◌==◌, ◌&&◌, nat_lt, Bool, true, false, List, [], ◌∷◌, length, Option, Some, None, Result, Ok, Err, if◌then◌else◌, find}
 use Rattle.scsi_cdb.specs.Bits.{bit, bits, byte, two_bytes, three_bytes, four_bytes, signed_three_bytes}
-use Rattle.scsi_cdb.specs.HostCommands.{send_diagnostic, log_select, log_sense, mode_select_10, mode_sense_10, maintenance_in, position_to_element, initialize_with_range}
+use Rattle.scsi_cdb.specs.HostCommands.{send_diagnostic, log_select, log_sense, mode_select_10, mode_sense_10, maintenance_in, position_to_element, initialize_with_range, exchange_medium}
 use Rattle.scsi_cdb.specs.declared.action.InServiceAction.{InServiceAction}
 use Rattle.scsi_cdb.specs.declared.action.InServiceAction.TheVariants as in_act
 use Rattle.scsi_cdb.specs.ServiceActions.{out_service_action}
@@ -80,6 +80,7 @@ host_rows Hosts =
     ∷ row 0x55 10 Drives (λ c. Some (Host (mode_select_10 c)))
     ∷ row 0x5A 10 Both (λ c. Some (Host (mode_sense_10 c)))
     ∷ row 0xA3 12 Both (λ c. of_host (maintenance_in (bits c 1 4 0) c))
+    ∷ row 0xA6 12 Changers (λ c. Some (Host (exchange_medium c)))
     ∷ []
 
 -- the commands of a profile: those of both in order of their operation codes, then its own

@@ -5,7 +5,7 @@ use Rattle.scsi_cdb.specs.Bytes.{at, from, two, four, padded}
 use Rattle.scsi_cdb.specs.declared.classes.Class.{Class}
 use Rattle.scsi_cdb.specs.declared.classes.Class.TheVariants as class
 use Rattle.scsi_cdb.specs.declared.host_request.HostRequest.{HostRequest}
-use Rattle.scsi_cdb.specs.declared.host_request.HostRequest.TheVariants.{SendDiagnostic, LogSelect, LogSense, ModeSelect10, ModeSense10, ReportSupportedOperationCodes, ReportSupportedTaskManagementFunctions, PositionToElement, InitializeElementStatusWithRange}
+use Rattle.scsi_cdb.specs.declared.host_request.HostRequest.TheVariants.{SendDiagnostic, LogSelect, LogSense, ModeSelect10, ModeSense10, ReportSupportedOperationCodes, ReportSupportedTaskManagementFunctions, PositionToElement, InitializeElementStatusWithRange, ExchangeMedium}
 
 -- WHAT A CDB SAYS: its bytes are c
 abbrev pub send_diagnostic : List ℕ → HostRequest
@@ -35,6 +35,10 @@ position_to_element c = PositionToElement (two_bytes c 2) (two_bytes c 4) (bit c
 abbrev pub initialize_with_range : List ℕ → HostRequest
 initialize_with_range c = InitializeElementStatusWithRange (bit c 1 1) (bit c 1 0) (two_bytes c 2) (two_bytes c 6)
 
+-- in byte 10 INV1, then INV2
+abbrev pub exchange_medium : List ℕ → HostRequest
+exchange_medium c = ExchangeMedium (two_bytes c 2) (two_bytes c 4) (two_bytes c 6) (two_bytes c 8) (bit c 10 1) (bit c 10 0)
+
 -- the service actions of MAINTENANCE IN
 abbrev pub maintenance_in : (service_action : ℕ) → List ℕ → Option HostRequest
 maintenance_in service_action c =
@@ -53,6 +57,7 @@ host_class_of (ReportSupportedOperationCodes rctd options code action n) = class
 host_class_of (ReportSupportedTaskManagementFunctions repd n) = class.ReportSupportedTaskManagementFunctions
 host_class_of (PositionToElement transport destination invert) = class.PositionToElement
 host_class_of (InitializeElementStatusWithRange fast range start count) = class.InitializeElementStatus
+host_class_of (ExchangeMedium transport source first second inv1 inv2) = class.ExchangeMedium
 
 -- THE BYTES of each in their order
 abbrev pub host_encoded : HostRequest → List ℕ
@@ -71,6 +76,8 @@ host_encoded (PositionToElement transport destination invert) =
     padded (0x2B ∷ 0 ∷ (two transport ++ two destination ++ 0 ∷ 0 ∷ at 0 invert ∷ []))
 host_encoded (InitializeElementStatusWithRange fast range start count) =
     padded (0x37 ∷ (at 1 fast + at 0 range) ∷ (two start ++ 0 ∷ 0 ∷ two count))
+host_encoded (ExchangeMedium transport source first second inv1 inv2) =
+    padded (0xA6 ∷ 0 ∷ (two transport ++ two source ++ two first ++ two second ++ (at 1 inv1 + at 0 inv2) ∷ []))
 
 -- the fields fit their bits
 abbrev pub HostFits : HostRequest → Type 0
@@ -83,3 +90,5 @@ HostFits (ReportSupportedOperationCodes rctd options code action n) = (options <
 HostFits (ReportSupportedTaskManagementFunctions repd n) = n < 2 ^ 32
 HostFits (PositionToElement transport destination invert) = (transport < 2 ^ 16) × (destination < 2 ^ 16)
 HostFits (InitializeElementStatusWithRange fast range start count) = (start < 2 ^ 16) × (count < 2 ^ 16)
+HostFits (ExchangeMedium transport source first second inv1 inv2) =
+    (transport < 2 ^ 16) × (source < 2 ^ 16) × (first < 2 ^ 16) × (second < 2 ^ 16)

@@ -47,4 +47,5 @@ pub enum Class {
     ReportSupportedOperationCodes,
     ReportSupportedTaskManagementFunctions,
     PositionToElement,
+    ExchangeMedium,
 }

@@ -2,7 +2,7 @@
 
 ghost use Rattle.std.specs.Prelude.{◌≡◌, ◌≤◌, true, length, IfSome, is_some};
 ghost use Rattle.scsi_cdb.specs.Bits.{bits};
-ghost use Rattle.scsi_cdb.specs.HostCommands.{HostFits, send_diagnostic, log_select, log_sense, mode_select_10, mode_sense_10, supported_operation_codes, supported_task_management, maintenance_in, position_to_element, initialize_with_range};
+ghost use Rattle.scsi_cdb.specs.HostCommands.{HostFits, send_diagnostic, log_select, log_sense, mode_select_10, mode_sense_10, supported_operation_codes, supported_task_management, maintenance_in, position_to_element, initialize_with_range, exchange_medium};
 ghost use Rattle.scsi_cdb.specs.Commands.{Row, had, fields_in, host_rows};
 ghost use Rattle.scsi_cdb.specs.Encoding.{Fits};
 ghost use Rattle.scsi_cdb.specs.declared.profile.Profile.TheVariants.{Hosts};
@@ -20,7 +20,9 @@ pub fn has_host_command(kind: Kind, opcode: u8) -> bool
     match opcode {
         SEND_DIAGNOSTIC | LOG_SELECT | LOG_SENSE | MODE_SENSE_10 | MAINTENANCE_IN => true,
         MODE_SELECT_10 => kind == Kind::Drive,
-        POSITION_TO_ELEMENT | INITIALIZE_ELEMENT_STATUS_WITH_RANGE => kind == Kind::Changer,
+        POSITION_TO_ELEMENT | INITIALIZE_ELEMENT_STATUS_WITH_RANGE | EXCHANGE_MEDIUM => {
+            kind == Kind::Changer
+        }
         _ => false,
     }
 }
@@ -43,6 +45,7 @@ pub fn host_fields_of(kind: Kind, opcode: u8, cdb: &[u8]) -> Option<Request>
         INITIALIZE_ELEMENT_STATUS_WITH_RANGE => {
             Some(Request::Host(initialize_with_range_at(cdb)))
         }
+        EXCHANGE_MEDIUM => Some(Request::Host(exchange_medium_at(cdb))),
         _ => None,
     }
 }
@@ -178,5 +181,20 @@ fn initialize_with_range_at(cdb: &[u8]) -> HostRequest
         range: bit_at(cdb, FLAGS, RANGE_BIT),
         starting_element_address: u16_at(cdb, STARTING_ELEMENT_ADDRESS),
         number_of_elements: u16_at(cdb, RANGE_NUMBER_OF_ELEMENTS),
+    }
+}
+
+fn exchange_medium_at(cdb: &[u8]) -> HostRequest
+    requires { 12 ≤ length cdb.now }
+    ensures value { result ≡ exchange_medium cdb.now }
+    ensures fits { HostFits result }
+{
+    HostRequest::ExchangeMedium {
+        medium_transport_element_address: u16_at(cdb, MEDIUM_TRANSPORT_ELEMENT_ADDRESS),
+        source_element_address: u16_at(cdb, SOURCE_ELEMENT_ADDRESS),
+        first_destination_element_address: u16_at(cdb, FIRST_DESTINATION_ELEMENT_ADDRESS),
+        second_destination_element_address: u16_at(cdb, SECOND_DESTINATION_ELEMENT_ADDRESS),
+        invert_first: bit_at(cdb, EXCHANGE_MEDIUM_FLAGS, INV1_BIT),
+        invert_second: bit_at(cdb, EXCHANGE_MEDIUM_FLAGS, INV2_BIT),
     }
 }

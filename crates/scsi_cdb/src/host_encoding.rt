@@ -155,5 +155,20 @@ pub fn host_encode(request: &HostRequest) -> [u8; CDB_LENGTH]
                 e0,
             ])
         }
+        HostRequest::ExchangeMedium {
+            medium_transport_element_address,
+            source_element_address,
+            first_destination_element_address,
+            second_destination_element_address,
+            invert_first,
+            invert_second,
+        } => {
+            let [t1, t0] = medium_transport_element_address.to_be_bytes();
+            let [s1, s0] = source_element_address.to_be_bytes();
+            let [f1, f0] = first_destination_element_address.to_be_bytes();
+            let [d1, d0] = second_destination_element_address.to_be_bytes();
+            let flags = flag(INV1_BIT, invert_first) + flag(INV2_BIT, invert_second);
+            zero_padded(&[EXCHANGE_MEDIUM, 0, t1, t0, s1, s0, f1, f0, d1, d0, flags])
+        }
     }
 }

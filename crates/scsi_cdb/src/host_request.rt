@@ -79,6 +79,16 @@ pub enum HostRequest {
         starting_element_address: u16,
         number_of_elements: u16,
     },
+    ExchangeMedium {
+        medium_transport_element_address: u16,
+        source_element_address: u16,
+        first_destination_element_address: u16,
+        second_destination_element_address: u16,
+        /// INV1.
+        invert_first: bool,
+        /// INV2.
+        invert_second: bool,
+    },
 }
 
 impl HostRequest {
@@ -102,6 +112,7 @@ impl HostRequest {
             }
             HostRequest::PositionToElement { .. } => Class::PositionToElement,
             HostRequest::InitializeElementStatusWithRange { .. } => Class::InitializeElementStatus,
+            HostRequest::ExchangeMedium { .. } => Class::ExchangeMedium,
         }
     }
 }

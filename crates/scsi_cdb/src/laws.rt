@@ -9,7 +9,7 @@ ghost use Rattle.scsi_cdb.specs.declared.service_action.OutServiceAction.TheVari
 ghost use Rattle.scsi_cdb.specs.declared.fault.CdbFault.TheVariants.{Opcode, ShortCdb, ServiceAction, Naca};
 ghost use Rattle.scsi_cdb.specs.declared.kind.Kind.TheVariants.{Drive, Changer};
 ghost use Rattle.scsi_cdb.specs.declared.profile.Profile.TheVariants.{Spec, Hosts};
-ghost use Rattle.scsi_cdb.specs.declared.host_request.HostRequest.TheVariants.{SendDiagnostic, LogSelect, LogSense, ModeSelect10, ModeSense10, ReportSupportedOperationCodes, ReportSupportedTaskManagementFunctions, PositionToElement, InitializeElementStatusWithRange};
+ghost use Rattle.scsi_cdb.specs.declared.host_request.HostRequest.TheVariants.{SendDiagnostic, LogSelect, LogSense, ModeSelect10, ModeSense10, ReportSupportedOperationCodes, ReportSupportedTaskManagementFunctions, PositionToElement, InitializeElementStatusWithRange, ExchangeMedium};
 ghost use Rattle.scsi_cdb.specs.declared.request.Request.TheVariants.{TestUnitReady, Rewind, RequestSense, ReadBlockLimits, InitializeElementStatus, Read, Write, WriteFilemarks, Space, Inquiry, ModeSelect, Erase, ModeSense, LoadUnload, PreventAllowMediumRemoval, Locate, ReadPosition, PersistentReserveIn, PersistentReserveOut, ReportLuns, MoveMedium, ReadElementStatus, Host};
 
 /// Law: a unit that has the command decodes what was encoded, where the fields fit their bits.
@@ -167,6 +167,18 @@ pub fn worked_rows_of_hosts()
     ensures short_initialize { decoded (commands Hosts Changer) (0x37 ∷ 0 ∷ 0 ∷ 0 ∷ 0 ∷ 0 ∷ 0 ∷ 0 ∷ 0 ∷ []) ≡ Err ShortCdb }
     ensures initialize_of_a_drive { decoded (commands Hosts Drive) (0x37 ∷ 0 ∷ 0 ∷ 0 ∷ 0 ∷ 0 ∷ 0 ∷ 0 ∷ 0 ∷ 0 ∷ []) ≡ Err Opcode }
     ensures initialize_by_default { decoded (commands Spec Changer) (0x37 ∷ 0 ∷ 0 ∷ 0 ∷ 0 ∷ 0 ∷ 0 ∷ 0 ∷ 0 ∷ 0 ∷ []) ≡ Err Opcode }
+    ensures exchange { decoded (commands Hosts Changer) (0xA6 ∷ 0xFF ∷ 1 ∷ 2 ∷ 4 ∷ 0 ∷ 1 ∷ 0 ∷ 4 ∷ 2 ∷ 0xFC ∷ 0 ∷ [])
+        ≡ Ok (Host (ExchangeMedium 0x0102 0x0400 0x0100 0x0402 false false)) }
+    ensures exchange_inverts_the_first { decoded (commands Hosts Changer) (0xA6 ∷ 0 ∷ 0 ∷ 0 ∷ 4 ∷ 0 ∷ 1 ∷ 0 ∷ 4 ∷ 0 ∷ 2 ∷ 0 ∷ [])
+        ≡ Ok (Host (ExchangeMedium 0 0x0400 0x0100 0x0400 true false)) }
+    ensures exchange_inverts_the_second { decoded (commands Hosts Changer) (0xA6 ∷ 0 ∷ 0 ∷ 0 ∷ 4 ∷ 0 ∷ 1 ∷ 0 ∷ 4 ∷ 0 ∷ 1 ∷ 0 ∷ [])
+        ≡ Ok (Host (ExchangeMedium 0 0x0400 0x0100 0x0400 false true)) }
+    ensures exchange_by_naca { decoded (commands Hosts Changer) (0xA6 ∷ 0 ∷ 0 ∷ 0 ∷ 4 ∷ 0 ∷ 1 ∷ 0 ∷ 4 ∷ 0 ∷ 0 ∷ 4 ∷ []) ≡ Err Naca }
+    ensures short_exchange { decoded (commands Hosts Changer) (0xA6 ∷ 0 ∷ 0 ∷ 0 ∷ 4 ∷ 0 ∷ 1 ∷ 0 ∷ 4 ∷ 0 ∷ 0 ∷ []) ≡ Err ShortCdb }
+    ensures exchange_of_a_drive { decoded (commands Hosts Drive) (0xA6 ∷ 0 ∷ 0 ∷ 0 ∷ 4 ∷ 0 ∷ 1 ∷ 0 ∷ 4 ∷ 0 ∷ 0 ∷ 0 ∷ []) ≡ Err Opcode }
+    ensures exchange_by_default { decoded (commands Spec Changer) (0xA6 ∷ 0 ∷ 0 ∷ 0 ∷ 4 ∷ 0 ∷ 1 ∷ 0 ∷ 4 ∷ 0 ∷ 0 ∷ 0 ∷ []) ≡ Err Opcode }
+    ensures exchanged { encoded (Host (ExchangeMedium 0 0x0400 0x0100 0x0402 true false))
+        ≡ padded (0xA6 ∷ 0 ∷ 0 ∷ 0 ∷ 4 ∷ 0 ∷ 1 ∷ 0 ∷ 4 ∷ 2 ∷ 2 ∷ []) }
     ensures first_partition { decoded (commands Hosts Drive) (0x2B ∷ 2 ∷ 0 ∷ 0 ∷ 0 ∷ 0 ∷ 3 ∷ 9 ∷ 1 ∷ 0 ∷ []) ≡ Ok (Locate false true 3 1) }
     ensures located { encoded (Locate false true 3 1) ≡ padded (0x2B ∷ 2 ∷ 0 ∷ 0 ∷ 0 ∷ 0 ∷ 3 ∷ 0 ∷ 1 ∷ []) }
     ensures positioned { encoded (Host (PositionToElement 0 0x0403 false)) ≡ padded (0x2B ∷ 0 ∷ 0 ∷ 0 ∷ 4 ∷ 3 ∷ []) }

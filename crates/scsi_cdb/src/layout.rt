@@ -66,6 +66,8 @@ pub const MODE_SENSE_10: u8 = 0x5A;
 
 pub const MAINTENANCE_IN: u8 = 0xA3;
 
+pub const EXCHANGE_MEDIUM: u8 = 0xA6;
+
 // Service actions of MAINTENANCE IN.
 pub const REPORT_SUPPORTED_OPERATION_CODES: u8 = 0x0C;
 
@@ -254,6 +256,17 @@ pub const INVERT_BIT: u8 = 0;
 pub const POSITION_DESTINATION_ELEMENT_ADDRESS: usize = 4;
 
 pub const POSITION_FLAGS: usize = 8;
+
+// EXCHANGE MEDIUM: the medium transport element and the source as in MOVE MEDIUM, places, and byte 10.
+pub const FIRST_DESTINATION_ELEMENT_ADDRESS: usize = 6;
+
+pub const SECOND_DESTINATION_ELEMENT_ADDRESS: usize = 8;
+
+pub const EXCHANGE_MEDIUM_FLAGS: usize = 10;
+
+pub const INV1_BIT: u8 = 1;
+
+pub const INV2_BIT: u8 = 0;
 
 // INITIALIZE ELEMENT STATUS WITH RANGE, byte 1; then the first element as in READ ELEMENT STATUS, and a place.
 pub const FAST_BIT: u8 = 1;

@@ -1,6 +1,6 @@
 -- Elements as if no object of any tape counted as unchanged: the same places, tags and refusals, and after each call again such elements.
 use Rattle.std.proofs.Common.{◌≡◌, ℕ, ◌==◌, Bool, List, [], ◌∷◌, length, get_or, map, Option, Some, None, is_some, Result, Ok, Err, refl, sym, ap}
-use Rattle.std.proofs.Common.{◌∙◌, if◌then◌else◌, ◌-◌}
+use Rattle.std.proofs.Common.{◌∙◌, if◌then◌else◌, ◌-◌, ◌&&◌}
 use Rattle.std.proofs.lemmas.List.{length-map, map-set}
 use Rattle.std.proofs.Math.ListN.{get_or-map}
 use Rattle.std.specs.Option.{option_map}
@@ -10,9 +10,10 @@ use Rattle.tape_medium.specs.declared.elements.MapFault.{MapFault}
 use Rattle.tape_medium.specs.declared.elements.MapFault.TheVariants.{BadAddress}
 use Rattle.tape_medium.specs.Elements.{Elements, Element, Transport, DataTransfer, ImportExport, Storage, Nowhere, element_at, is_among}
 use Rattle.tape_medium.specs.Elements.{first_data_transfer, first_import_export, first_storage, tag_of, tag_in, tag_held, held_in, holding}
-use Rattle.tape_medium.specs.Elements.{moved, refusal, move_refusal, moves}
+use Rattle.tape_medium.specs.Elements.{moved, refusal, move_refusal, moves, taken, takes, put, puts}
 use Rattle.tape_medium.specs.ElementStatus.{element_status}
 use Rattle.tape_medium.specs.Settling.{settled_to, unsettled_place, unsettled_elements}
+use Rattle.element_map.specs.Exchange.{fullness, is_exchange, exchange_refused, exchange_refusal, second_put, both_put, first_taken, exchanges}
 use Rattle.inquiry_data.specs.declared.library_number.LibraryNumber.{LibraryNumber}
 use Rattle.element_sources.specs.HostStatus.{host_status}
 use Rattle.element_sources.specs.Sources.{Sources}
@@ -148,6 +149,21 @@ same_refusal e transport source destination =
     refused_by a (tag_held (unsettled_elements e) (element_at (unsettled_elements e) destination))) from
     ∙ ap (λ (b : Option (Option VolumeTag)). refused_by (tag_held e (element_at e source)) b) to
 
+same_fullness : (e : Elements) (address : ℕ) → fullness (unsettled_elements e) address ≡ fullness e address
+same_fullness e address =
+    ap (λ (held : Option (Option VolumeTag)). option_map is_some held)
+    (ap (λ (at : Element). tag_held (unsettled_elements e) at) (same_element e address) ∙ same_tag_held e (element_at e address))
+
+pub same_exchange_refusal : (e : Elements) (transport source first second : ℕ)
+    → exchange_refusal (unsettled_elements e) transport source first second ≡ exchange_refusal e transport source first second
+same_exchange_refusal e transport source first second =
+    let u = unsettled_elements e in
+    let refused_by : Option Bool → Option Bool → Option Bool → Option MapFault =
+    λ a b c. if transport == 0 && is_exchange e source first second then exchange_refused a b c (source == second) else Some BadAddress in
+    ap (λ (a : Option Bool). refused_by a (fullness u first) (fullness u second)) (same_fullness e source)
+    ∙ ap (λ (b : Option Bool). refused_by (fullness e source) b (fullness u second)) (same_fullness e first)
+    ∙ ap (λ (c : Option Bool). refused_by (fullness e source) (fullness e first) c) (same_fullness e second)
+
 -- CALLS: what they leave is the same as if no object counted as unchanged
 
 abbrev pub of_result : {A : Type 0} → (A → A) → Result A MapFault → Result A MapFault
@@ -183,3 +199,56 @@ moves_same e source destination =
     moved u (element_at e source) (option_map unsettled_place (held_in e (element_at e source))) (element_at e destination) h)
     (same_held e (element_at e destination))
     ∙ moved_same e (element_at e source) (held_in e (element_at e source)) (element_at e destination) (held_in e (element_at e destination))
+
+-- EXCHANGES, by their steps
+
+abbrev of_take : Result (Elements × Volume) MapFault → Result (Elements × Volume) MapFault
+of_take (Ok it) = Ok (unsettled_elements it.0, settled_to 0 it.1)
+of_take (Err fault) = Err fault
+
+taken_same : (e : Elements) (from : Element) (held : Option (Option Volume))
+    → taken (unsettled_elements e) from (option_map unsettled_place held) ≡ of_take (taken e from held)
+taken_same e from None = refl
+taken_same e from (Some None) = refl
+taken_same e from (Some (Some v)) = ap (λ (x : Elements). Ok (x, settled_to 0 v)) (sym (same_holding e from None))
+
+takes_same : (e : Elements) (place : ℕ) → takes (unsettled_elements e) place ≡ of_take (takes e place)
+takes_same e place =
+    let u = unsettled_elements e in
+    ap (λ (at : Element). taken u at (held_in u at)) (same_element e place)
+    ∙ ap (taken u (element_at e place)) (same_held e (element_at e place))
+    ∙ taken_same e (element_at e place) (held_in e (element_at e place))
+
+put_same : (e : Elements) (to : Element) (v : Volume) (held : Option (Option Volume))
+    → put (unsettled_elements e) to (settled_to 0 v) (option_map unsettled_place held) ≡ of_result unsettled_elements (put e to v held)
+put_same e to v None = refl
+put_same e to v (Some (Some w)) = refl
+put_same e to v (Some None) = ap (λ (x : Elements). Ok x) (sym (same_holding e to (Some v)))
+
+puts_same : (e : Elements) (place : ℕ) (v : Volume) → puts (unsettled_elements e) place (settled_to 0 v) ≡ of_result unsettled_elements (puts e place v)
+puts_same e place v =
+    let u = unsettled_elements e in
+    ap (λ (at : Element). put u at (settled_to 0 v) (held_in u at)) (same_element e place)
+    ∙ ap (put u (element_at e place) (settled_to 0 v)) (same_held e (element_at e place))
+    ∙ put_same e (element_at e place) v (held_in e (element_at e place))
+
+second_same : (second : ℕ) (other : Volume) (r : Result Elements MapFault)
+    → second_put second (settled_to 0 other) (of_result unsettled_elements r) ≡ of_result unsettled_elements (second_put second other r)
+second_same second other (Ok e) = puts_same e second other
+second_same second other (Err fault) = refl
+
+both_same : (first second : ℕ) (one : Volume) (r : Result (Elements × Volume) MapFault)
+    → both_put first second (settled_to 0 one) (of_take r) ≡ of_result unsettled_elements (both_put first second one r)
+both_same first second one (Ok it) =
+    ap (second_put second (settled_to 0 it.1)) (puts_same it.0 first one) ∙ second_same second it.1 (puts it.0 first one)
+both_same first second one (Err fault) = refl
+
+first_same : (first second : ℕ) (r : Result (Elements × Volume) MapFault)
+    → first_taken first second (of_take r) ≡ of_result unsettled_elements (first_taken first second r)
+first_same first second (Ok it) =
+    ap (both_put first second (settled_to 0 it.1)) (takes_same it.0 first) ∙ both_same first second it.1 (takes it.0 first)
+first_same first second (Err fault) = refl
+
+pub exchanges_same : (e : Elements) (source first second : ℕ)
+    → exchanges (unsettled_elements e) source first second ≡ of_result unsettled_elements (exchanges e source first second)
+exchanges_same e source first second = ap (first_taken first second) (takes_same e source) ∙ first_same first second (takes e source)

@@ -15,6 +15,7 @@ use Rattle.tape_medium.specs.declared.elements.MapFault.{MapFault}
 use Rattle.tape_medium.specs.Elements.{Elements, move_refusal, moves}
 use Rattle.tape_medium.specs.Tape.{settled}
 use Rattle.tape_medium.specs.Settling.{settled_to, unsettled_place, unsettled_elements}
+use Rattle.element_map.specs.Exchange.{exchange_refusal, exchanges}
 use Rattle.mode_pages.specs.ChangerData.{changer_answer}
 use Rattle.mode_pages.specs.DriveData.{drive_answer}
 use Rattle.mode_pages.specs.Select as mode
@@ -37,12 +38,12 @@ use Rattle.device_server.specs.Drive.{DriveView, is_protected, drive_step, on_ta
 use Rattle.device_server.specs.Mode.{block_length_after, mode_data}
 use Rattle.device_server.specs.Settled.{SameButSettled, unsettled}
 use Rattle.device_server.specs.Hosts.{mode_sense, log_sense, log_select}
-use Rattle.device_server.specs.HostChanger.{ChangerView, sources_moved, host_moved_alone, host_carried, status_asked, changer_command_answer, host_changer_step}
+use Rattle.device_server.specs.HostChanger.{ChangerView, sources_moved, sources_exchanged, host_moved_alone, host_carried, host_exchanged_alone, host_exchanged, status_asked, changer_command_step, host_changer_step}
 use Rattle.device_server.specs.HostDrive.{mode_state, host_selects, host_loads, passed_bytes, counted, host_in_bay, drive_log, host_log_selects, host_command_step, host_drive_step}
 use Rattle.device_server.specs.View.{DeviceView, Drive, Changer, field_fault, drive_stepped, changer_stepped, stepped, performed}
 use Rattle.settled_laws.specs.Alike.{StepAlike, PerformAlike, AttendedAnswersAlike, ends, attends, performs, outcomes, device_after}
 use Rattle.settled_laws.proofs.Tapes.{Alike, on_tape_alike}
-use Rattle.settled_laws.proofs.Maps.{place_twice, elements_twice, same_refusal, same_mode_data, same_status, same_addresses, same_host_status, same_can_hold, moves_same, of_result}
+use Rattle.settled_laws.proofs.Maps.{place_twice, elements_twice, same_refusal, same_mode_data, same_status, same_addresses, same_host_status, same_can_hold, same_exchange_refusal, moves_same, exchanges_same, of_result}
 pub use Rattle.settled_laws.proofs.Showing.{refuse_alike}
 
 -- A DRIVE
@@ -192,6 +193,8 @@ command_alike bay loaded block_length hosts h (host.SendDiagnostic code test l) 
 command_alike bay loaded block_length hosts h (host.ReportSupportedOperationCodes rctd options code action l) bytes = stays_alike bay loaded block_length hosts _
 command_alike bay loaded block_length hosts h (host.ReportSupportedTaskManagementFunctions repd l) bytes = stays_alike bay loaded block_length hosts _
 command_alike bay loaded block_length hosts h (host.PositionToElement transport destination invert) bytes = stays_alike bay loaded block_length hosts _
+command_alike bay loaded block_length hosts h (host.ExchangeMedium transport source first second inv1 inv2) bytes =
+    stays_alike bay loaded block_length hosts _
 command_alike bay loaded block_length hosts h (host.InitializeElementStatusWithRange fast range start count) bytes = stays_alike bay loaded block_length hosts _
 
 host_alike : (bay : Option Volume) (loaded : Bool) (block_length : ℕ) (hosts : Option HostDrive) (h : HostDrive) (r : Request) (bytes : List ℕ)
@@ -281,13 +284,36 @@ host_carried_alike hosts h e source destination None =
     (sym (moves_same e source destination))
     (host_moved_alike hosts h e source destination (moves e source destination))
 
-answer_same : (e : Elements) (command : HostRequest) (bytes : List ℕ)
-    → changer_command_answer e command bytes ≡ changer_command_answer (unsettled_elements e) command bytes
-answer_same e (host.ModeSense10 dbd pc page subpage l) bytes =
-    ap (λ (at : ElementAddresses). answers l (changer_answer (mode_sense Ten dbd pc page subpage) at)) (sym (same_addresses e))
-answer_same e (host.PositionToElement transport destination invert) bytes =
-    ap (λ (held : Bool). if transport == 0 && held then done [] else refused InvalidElementAddress) (sym (same_can_hold e destination))
-answer_same e command bytes = refl
+host_exchanged_alike : (hosts : Option HostChanger) (h : HostChanger) (e : Elements) (source first second : ℕ) (r : Result Elements MapFault)
+    → ChangerAlike (host_exchanged_alone (at_hosts e hosts) h source first second r)
+    (host_exchanged_alone (at_hosts (unsettled_elements e) hosts) h source first second (of_result unsettled_elements r))
+host_exchanged_alike hosts h e source first second (Ok after) = (elements_settle (Some (sources_exchanged h source first second)) after, refl)
+host_exchanged_alike hosts h e source first second (Err fault) = elements_stay hosts e (refused InternalTargetFailure)
+
+host_exchange_alike : (hosts : Option HostChanger) (h : HostChanger) (e : Elements) (source first second : ℕ) (o : Option MapFault)
+    → ChangerAlike (host_exchanged (at_hosts e hosts) h source first second o) (host_exchanged (at_hosts (unsettled_elements e) hosts) h source first second o)
+host_exchange_alike hosts h e source first second (Some fault) = elements_stay hosts e (refused (move_condition fault))
+host_exchange_alike hosts h e source first second None =
+    subst (λ (r : Result Elements MapFault). ChangerAlike (host_exchanged (at_hosts e hosts) h source first second None)
+    (host_exchanged_alone (at_hosts (unsettled_elements e) hosts) h source first second r))
+    (sym (exchanges_same e source first second))
+    (host_exchanged_alike hosts h e source first second (exchanges e source first second))
+
+changer_command_alike : (hosts : Option HostChanger) (h : HostChanger) (e : Elements) (command : HostRequest) (bytes : List ℕ)
+    → ChangerAlike (changer_command_step (at_hosts e hosts) h command bytes) (changer_command_step (at_hosts (unsettled_elements e) hosts) h command bytes)
+changer_command_alike hosts h e (host.ModeSense10 dbd pc page subpage l) bytes =
+    (elements_settle hosts e, ap (λ (at : ElementAddresses). answers l (changer_answer (mode_sense Ten dbd pc page subpage) at)) (sym (same_addresses e)))
+changer_command_alike hosts h e (host.PositionToElement transport destination invert) bytes = (
+  elements_settle hosts e,
+  ap (λ (held : Bool). if transport == 0 && held then done [] else refused InvalidElementAddress) (sym (same_can_hold e destination)),
+)
+changer_command_alike hosts h e (host.ExchangeMedium transport source first second inv1 inv2) bytes =
+    subst (λ (o : Option MapFault).
+    ChangerAlike (host_exchanged (at_hosts e hosts) h source first second (exchange_refusal e transport source first second))
+    (host_exchanged (at_hosts (unsettled_elements e) hosts) h source first second o))
+    (sym (same_exchange_refusal e transport source first second))
+    (host_exchange_alike hosts h e source first second (exchange_refusal e transport source first second))
+changer_command_alike hosts h e command bytes = elements_stay hosts e _
 
 host_changer_alike : (hosts : Option HostChanger) (h : HostChanger) (e : Elements) (r : Request) (bytes : List ℕ)
     → ChangerAlike (host_changer_step (at_hosts e hosts) h r bytes) (host_changer_step (at_hosts (unsettled_elements e) hosts) h r bytes)
@@ -303,7 +329,7 @@ host_changer_alike hosts h e (request.ReadElementStatus voltag type_code start c
   ap (λ (bytes : List ℕ). done (take l bytes))
       (sym (same_host_status e h.sources h.identity.library_number (status_asked voltag type_code start count dvcid))),
 )
-host_changer_alike hosts h e (request.Host command) bytes = (elements_settle hosts e, answer_same e command bytes)
+host_changer_alike hosts h e (request.Host command) bytes = changer_command_alike hosts h e command bytes
 host_changer_alike hosts h e r bytes = elements_stay hosts e _
 
 changer_by_profile : (o hosts : Option HostChanger) (e : Elements) (r : Request) (bytes : List ℕ)

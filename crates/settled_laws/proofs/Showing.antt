@@ -1,6 +1,8 @@
 -- What a device shows, and what it refuses by the fields of a command, is a matter of what it is but for what is settled.
-use Rattle.std.proofs.Common.{◌≡◌, ℕ, ◌&&◌, ◌||◌, not, Bool, is_none, Option, Some, None, Result, Ok, Err, refl, sym, ap, ◌∙◌, ◌==◌}
+use Rattle.std.proofs.Common.{◌≡◌, ℕ, ◌&&◌, ◌||◌, not, Bool, is_none, is_some, Option, Some, None, Result, Ok, Err, refl, sym, ap, ◌∙◌, ◌==◌}
 use Rattle.std.proofs.Common.{if◌then◌else◌}
+use Rattle.scsi_cdb.specs.declared.host_request.HostRequest.{HostRequest}
+use Rattle.scsi_cdb.specs.declared.host_request.HostRequest.TheVariants as host
 use Rattle.scsi_cdb.specs.declared.kind.Kind.{Kind}
 use Rattle.scsi_cdb.specs.declared.profile.CommandSet.{CommandSet}
 use Rattle.scsi_cdb.specs.declared.profile.Profile.{Profile}
@@ -12,12 +14,14 @@ use Rattle.tape_medium.specs.declared.volume.VolumeTag.{VolumeTag}
 use Rattle.tape_medium.specs.declared.elements.MapFault.{MapFault}
 use Rattle.tape_medium.specs.Elements.{Elements, Element, element_at, tag_in, tag_of, move_refusal}
 use Rattle.tape_medium.specs.Settling.{unsettled_place, unsettled_elements}
-use Rattle.device_server.specs.Failures.{is_for_drives, is_data_transfer, leaves_to_drives}
+use Rattle.element_map.specs.Exchange.{has_drive}
+use Rattle.device_server.specs.Failures.{is_exchange_for_drives, is_for_drives, is_data_transfer, leaves_to_drives}
+use Rattle.device_server.specs.HostChanger.{ChangerView}
 use Rattle.device_server.specs.Settled.{unsettled}
 use Rattle.device_server.specs.View.{DeviceView, Drive, Changer, kind_of, profile_of, identity_of, commands_of, drives_of, held_in}
 use Rattle.device_server.specs.FieldFaults.{field_fault_of}
 use Rattle.settled_laws.specs.Alike.{ShowAlike, RefuseAlike}
-use Rattle.settled_laws.proofs.Maps.{same_element, same_tag_in, same_refusal}
+use Rattle.settled_laws.proofs.Maps.{same_element, same_tag_in, same_refusal, same_exchange_refusal}
 
 -- as if nothing was settled, a device shows the same
 
@@ -57,19 +61,31 @@ held_unsettled (Changer c) place =
     ap (λ (at : Element). tag_there (tag_in (unsettled_elements c.elements) at)) (same_element c.elements place)
     ∙ ap tag_there (same_tag_in c.elements (element_at c.elements place))
 
-for_drives : (e : Elements) (r : Request) → is_for_drives (unsettled_elements e) r ≡ is_for_drives e r
-for_drives e (request.MoveMedium transport source destination invert) =
+exchange_for_drives : (e : Elements) (command : HostRequest) → is_exchange_for_drives (unsettled_elements e) command ≡ is_exchange_for_drives e command
+exchange_for_drives e (host.ExchangeMedium transport source first second inv1 inv2) =
+    ap (λ (o : Option MapFault). not (inv1 || inv2) && (is_none o && has_drive e source first second)) (same_exchange_refusal e transport source first second)
+exchange_for_drives e command = refl
+
+unsettled_changer : ChangerView → ChangerView
+unsettled_changer c = record c { elements = unsettled_elements c.elements }
+
+for_drives : (c : ChangerView) (r : Request) → is_for_drives (unsettled_changer c) r ≡ is_for_drives c r
+unfolding unsettled_changer
+for_drives c (request.MoveMedium transport source destination invert) =
+    let e = c.elements in
     let u = unsettled_elements e in
     let left : Option MapFault → Element → Element
     → Bool = λ o from to. not invert && (is_none o && (is_data_transfer from || is_data_transfer to)) in
     ap (λ (o : Option MapFault). left o (element_at u source) (element_at u destination)) (same_refusal e transport source destination)
     ∙ ap (λ (from : Element). left (move_refusal e transport source destination) from (element_at u destination)) (same_element e source)
     ∙ ap (λ (to : Element). left (move_refusal e transport source destination) (element_at e source) to) (same_element e destination)
-for_drives e r = refl
+for_drives c (request.Host command) = ap (λ (b : Bool). is_some c.hosts && b) (exchange_for_drives c.elements command)
+for_drives c r = refl
 
 leaves_unsettled : (d : DeviceView) (r : Request) → leaves_to_drives (unsettled d) r ≡ leaves_to_drives d r
+unfolding unsettled_changer
 leaves_unsettled (Drive d) r = refl
-leaves_unsettled (Changer c) r = for_drives c.elements r
+leaves_unsettled (Changer c) r = for_drives c r
 
 pub show_alike : ShowAlike
 show_alike one two same =

@@ -16,9 +16,9 @@ use Rattle.device_server.specs.declared.fault.BadPlace.{BadPlace}
 use Rattle.device_server.specs.declared.host_drive.HostDrive.{HostDrive}
 use Rattle.device_server.specs.HostChanger.{ChangerView}
 use Rattle.device_server.specs.Settled.{SameButSettled, unsettled}
-use Rattle.device_server.specs.View.{DeviceView, Drive, Changer, taken, taken_from_bay, put, put_in_bay, marked, journeyed, reset_of, take_fault_of}
+use Rattle.device_server.specs.View.{DeviceView, Drive, Changer, taken, taken_from_bay, put, put_in_bay, marked, journeyed, exchange_journeyed, reset_of, take_fault_of}
 use Rattle.device_server.specs.View.{put_fault_of}
-use Rattle.settled_laws.specs.Alike.{TakenAlike, ChangedAlike, ResetAlike, GiveAlike, PutAlike, MarkAlike, JourneyAlike}
+use Rattle.settled_laws.specs.Alike.{TakenAlike, ChangedAlike, ResetAlike, GiveAlike, PutAlike, MarkAlike, JourneyAlike, ExchangeAlike}
 use Rattle.settled_laws.proofs.Maps.{elements_twice, same_element, same_held, same_holding}
 use Rattle.settled_laws.proofs.Performing.{drive_of}
 
@@ -198,3 +198,13 @@ pub journey_alike : JourneyAlike
 journey_alike one two source destination same =
     journeyed_unsettled one source destination ∙ ap (λ (d : DeviceView). journeyed d source destination) same
     ∙ sym (journeyed_unsettled two source destination)
+
+exchange_unsettled : (d : DeviceView) (source first second : ℕ)
+    → unsettled (exchange_journeyed d source first second) ≡ exchange_journeyed (unsettled d) source first second
+exchange_unsettled (Drive d) source first second = refl
+exchange_unsettled (Changer c) source first second = refl
+
+pub exchange_alike : ExchangeAlike
+exchange_alike one two source first second same =
+    exchange_unsettled one source first second ∙ ap (λ (d : DeviceView). exchange_journeyed d source first second) same
+    ∙ sym (exchange_unsettled two source first second)

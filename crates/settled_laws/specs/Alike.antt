@@ -8,7 +8,7 @@ use Rattle.device_server.specs.declared.fault.TakeFault.{TakeFault}
 use Rattle.device_server.specs.declared.outcome.Outcome.{Outcome}
 use Rattle.device_server.specs.Failures.{leaves_to_drives}
 use Rattle.device_server.specs.Settled.{SameButSettled}
-use Rattle.device_server.specs.View.{DeviceView, kind_of, profile_of, identity_of, drives_of, held_in, field_fault, performed, taken, put, marked, journeyed, reset_of}
+use Rattle.device_server.specs.View.{DeviceView, kind_of, profile_of, identity_of, drives_of, held_in, field_fault, performed, taken, put, marked, journeyed, exchange_journeyed, reset_of}
 
 -- the same volume, but for how many objects of its tape count as unchanged
 abbrev pub SameVolumeButSettled : (one two : Volume) → Type 0
@@ -72,6 +72,10 @@ MarkAlike = (one two : DeviceView) (place : ℕ) (tag : Option VolumeTag) → Sa
 abbrev pub JourneyAlike : Type 0
 JourneyAlike = (one two : DeviceView) (source destination : ℕ) → SameButSettled one two
     → SameButSettled (journeyed one source destination) (journeyed two source destination)
+
+abbrev pub ExchangeAlike : Type 0
+ExchangeAlike = (one two : DeviceView) (source first second : ℕ) → SameButSettled one two
+    → SameButSettled (exchange_journeyed one source first second) (exchange_journeyed two source first second)
 
 -- COMMANDS ONE AFTER ANOTHER, each with the data sent with it: the outcomes, and the device afterwards
 abbrev pub outcomes : DeviceView → List (Request × List ℕ) → List Outcome

@@ -1,4 +1,4 @@
-ghost use Rattle.settled_laws.specs.Alike.{AttendedAnswersAlike, GiveAlike, JourneyAlike, MarkAlike, PerformAlike, PutAlike, RefuseAlike, ResetAlike, ShowAlike};
+ghost use Rattle.settled_laws.specs.Alike.{AttendedAnswersAlike, ExchangeAlike, GiveAlike, JourneyAlike, MarkAlike, PerformAlike, PutAlike, RefuseAlike, ResetAlike, ShowAlike};
 ghost use Rattle.settled_laws.specs.Rows.{AttendedDrive};
 
 use tape_medium::VolumeTag;
@@ -15,6 +15,7 @@ pub fn settled_devices_perform_alike()
     ensures put { PutAlike }
     ensures marked { MarkAlike }
     ensures journeys { JourneyAlike }
+    ensures exchanges { ExchangeAlike }
 {}
 
 /// Law: whatever commands come to a device, and whenever an attendant looks after it between them, each command is answered as if none had

@@ -8,7 +8,7 @@ ghost use Rattle.scsi_cdb.specs.declared.kind.Kind.TheVariants.{Drive, Changer};
 ghost use Rattle.supported_commands.specs.declared.options.ReportingOptions.{ReportingOptions};
 ghost use Rattle.supported_commands.specs.declared.options.ReportingOptions.TheVariants.{All, OneWithoutServiceActions, OneWithServiceAction, Either};
 ghost use Rattle.supported_commands.specs.Options.{options_at};
-ghost use Rattle.supported_commands.specs.Commands.{table, not_yet_offered, commands_of};
+ghost use Rattle.supported_commands.specs.Commands.{table, commands_of};
 ghost use Rattle.supported_commands.specs.Answers.{all_commands, operation_codes};
 ghost use Rattle.supported_commands.specs.TaskManagement.{task_management};
 ghost use Rattle.supported_commands.specs.Laws.{ListsEachCode, asked, has_action, has_cdb_length, is_well_formed, has_action_where_due, is_ascending};
@@ -28,8 +28,8 @@ pub fn listed_service_actions()
 {}
 
 /// Law: CDB USAGE DATA is as long as the command's CDB, begins with the operation code and has the service action in byte 1; four
-/// operation codes have service actions; the commands ascend; a drive has 37 of them, and a changer 29.
-#[tactic(auto, unfolding(crate::specs::Commands::table, crate::specs::Commands::not_yet_offered, scsi_cdb::specs::Commands::command_of))]
+/// operation codes have service actions; the commands ascend; a drive has 37 of them, and a changer 30.
+#[tactic(auto, unfolding(crate::specs::Commands::table, scsi_cdb::specs::Commands::command_of))]
 pub fn commands_are_well_formed()
     ensures cdb_length { IsTrue (list_all has_cdb_length table) }
     ensures usage { IsTrue (list_all is_well_formed table) }
@@ -37,9 +37,7 @@ pub fn commands_are_well_formed()
     ensures drives_ascend { IsTrue (is_ascending (commands_of Drive)) }
     ensures changers_ascend { IsTrue (is_ascending (commands_of Changer)) }
     ensures drives_have { length (commands_of Drive) ≡ 37 }
-    ensures changers_have { length (commands_of Changer) ≡ 29 }
-    ensures cdb_length_of_others { IsTrue (list_all has_cdb_length not_yet_offered) }
-    ensures usage_of_others { IsTrue (list_all is_well_formed not_yet_offered) }
+    ensures changers_have { length (commands_of Changer) ≡ 30 }
 {}
 
 /// Worked rows of the data of all commands: how many bytes follow, the first and the last descriptor.
@@ -58,15 +56,15 @@ pub fn worked_rows_of_all_commands()
         ≡ 0xA3 ∷ 0x00 ∷ 0x00 ∷ 0x0D ∷ 0x00 ∷ 0x03 ∷ 0x00 ∷ 0x0C
         ∷ 0x00 ∷ 0x0A ∷ 0x00 ∷ 0x00 ∷ 0x00 ∷ 0x00 ∷ 0x00 ∷ 0x01 ∷ 0x00 ∷ 0x00 ∷ 0x00 ∷ 0x3C ∷ [] }
     ensures changer { take 12 (all_commands Changer false)
-        ≡ 0x00 ∷ 0x00 ∷ 0x00 ∷ 0xE8 ∷ 0x00 ∷ 0x00 ∷ 0x00 ∷ 0x00 ∷ 0x00 ∷ 0x00 ∷ 0x00 ∷ 0x06 ∷ [] }
-    ensures changer_length { length (all_commands Changer false) ≡ 4 + 232 }
-    ensures changer_last { drop 228 (all_commands Changer false)
+        ≡ 0x00 ∷ 0x00 ∷ 0x00 ∷ 0xF0 ∷ 0x00 ∷ 0x00 ∷ 0x00 ∷ 0x00 ∷ 0x00 ∷ 0x00 ∷ 0x00 ∷ 0x06 ∷ [] }
+    ensures changer_length { length (all_commands Changer false) ≡ 4 + 240 }
+    ensures changer_last { drop 236 (all_commands Changer false)
         ≡ 0xB8 ∷ 0x00 ∷ 0x00 ∷ 0x00 ∷ 0x00 ∷ 0x00 ∷ 0x00 ∷ 0x0C ∷ [] }
     ensures changer_timeouts { take 24 (all_commands Changer true)
-        ≡ 0x00 ∷ 0x00 ∷ 0x02 ∷ 0x44 ∷ 0x00 ∷ 0x00 ∷ 0x00 ∷ 0x00 ∷ 0x00 ∷ 0x02 ∷ 0x00 ∷ 0x06
+        ≡ 0x00 ∷ 0x00 ∷ 0x02 ∷ 0x58 ∷ 0x00 ∷ 0x00 ∷ 0x00 ∷ 0x00 ∷ 0x00 ∷ 0x02 ∷ 0x00 ∷ 0x06
         ∷ 0x00 ∷ 0x0A ∷ 0x00 ∷ 0x00 ∷ 0x00 ∷ 0x00 ∷ 0x00 ∷ 0x01 ∷ 0x00 ∷ 0x00 ∷ 0x00 ∷ 0x3C ∷ [] }
-    ensures changer_timeouts_length { length (all_commands Changer true) ≡ 4 + 580 }
-    ensures changer_timeouts_last { drop 564 (all_commands Changer true)
+    ensures changer_timeouts_length { length (all_commands Changer true) ≡ 4 + 600 }
+    ensures changer_timeouts_last { drop 584 (all_commands Changer true)
         ≡ 0xB8 ∷ 0x00 ∷ 0x00 ∷ 0x00 ∷ 0x00 ∷ 0x02 ∷ 0x00 ∷ 0x0C
         ∷ 0x00 ∷ 0x0A ∷ 0x00 ∷ 0x00 ∷ 0x00 ∷ 0x00 ∷ 0x00 ∷ 0x01 ∷ 0x00 ∷ 0x00 ∷ 0x01 ∷ 0x2C ∷ [] }
     ensures answered { (operation_codes Changer (asked false All 0x5E 9) ≡ Ok (all_commands Changer false)) }
@@ -112,6 +110,10 @@ pub fn worked_rows_without_service_actions()
         ∷ 0x00 ∷ 0x0A ∷ 0x00 ∷ 0x00 ∷ 0x00 ∷ 0x00 ∷ 0x00 ∷ 0x01 ∷ 0x00 ∷ 0x00 ∷ 0x0E ∷ 0x10 ∷ []) }
     ensures initialize_with_range_of_a_drive { operation_codes Drive (asked false OneWithoutServiceActions 0x37 0)
         ≡ Ok (0x00 ∷ 0x01 ∷ 0x00 ∷ 0x00 ∷ []) }
+    ensures exchange_medium { operation_codes Changer (asked true Either 0xA6 0)
+        ≡ Ok (0x00 ∷ 0x83 ∷ 0x00 ∷ 0x0C ∷ 0xA6 ∷ 0x00 ∷ 0xFF ∷ 0xFF ∷ 0xFF ∷ 0xFF ∷ 0xFF ∷ 0xFF ∷ 0xFF ∷ 0xFF ∷ 0x03 ∷ 0x04
+        ∷ 0x00 ∷ 0x0A ∷ 0x00 ∷ 0x00 ∷ 0x00 ∷ 0x00 ∷ 0x00 ∷ 0x01 ∷ 0x00 ∷ 0x00 ∷ 0x01 ∷ 0x2C ∷ []) }
+    ensures exchange_medium_of_a_drive { operation_codes Drive (asked false Either 0xA6 0) ≡ Ok (0x00 ∷ 0x01 ∷ 0x00 ∷ 0x00 ∷ []) }
     ensures send_diagnostic { operation_codes Changer (asked false OneWithoutServiceActions 0x1D 0)
         ≡ Ok (0x00 ∷ 0x03 ∷ 0x00 ∷ 0x06 ∷ 0x1D ∷ 0xE4 ∷ 0x00 ∷ 0xFF ∷ 0xFF ∷ 0x04 ∷ []) }
 {}

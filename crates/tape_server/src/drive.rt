@@ -309,6 +309,8 @@ impl DeviceServer for TapeDrive {
     /// A drive keeps no sources.
     fn note_journey(&mut self, _source: u16, _destination: u16) {}
 
+    fn note_exchange(&mut self, _source: u16, _first: u16, _second: u16) {}
+
     fn reset(&mut self) {
         self.block_length = 0;
         if let Some(hosts) = &mut self.hosts {

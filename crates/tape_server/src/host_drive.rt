@@ -11,7 +11,7 @@ ghost use Rattle.supported_commands.specs.Options.{options_at};
 ghost use Rattle.device_server.specs.Hosts.{codes_answer};
 ghost use Rattle.device_server.specs.Outcomes.{answers};
 ghost use Rattle.device_server.specs.HostDrive.{mode_of, mode_state, is_other_mode, host_selects, told_of_load, host_loads, not_ready, host_in_bay, drive_log, host_log_selects, host_command_step, host_drive_step};
-ghost use Rattle.device_server.specs.Volumes.{is_move};
+ghost use Rattle.device_server.specs.Volumes.{is_exchange, is_move};
 
 use crate::drive::{BLOCK_LIMITS, TapeDrive, on_tape};
 use crate::logs::{counted, volume_log};
@@ -104,6 +104,7 @@ impl TapeDrive {
     ) -> Result<Outcome, AllocError>
         ensures ok { IfOk result (λ outcome. host_command_step self.old hosts command.now bytes.now ≡ (self.new, outcome)) }
         ensures err { OnErr result (self.new ≡ self.old) }
+        ensures want { OnErr result (is_exchange command.now ≡ false) }
     {
         match command {
             HostRequest::SendDiagnostic { .. } => Ok(Outcome::good(Payload::none(alloc))),
@@ -191,7 +192,8 @@ impl TapeDrive {
                 Ok(Outcome::good(payload))
             }
             HostRequest::PositionToElement { .. }
-            | HostRequest::InitializeElementStatusWithRange { .. } => {
+            | HostRequest::InitializeElementStatusWithRange { .. }
+            | HostRequest::ExchangeMedium { .. } => {
                 Ok(Outcome::check(alloc, Condition::InvalidCommandOperationCode))
             }
         }

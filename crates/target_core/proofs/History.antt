@@ -15,8 +15,8 @@ use Rattle.judgement.specs.History.{Accepted, accepted_as, accepted_by, after_hi
 use Rattle.logical_unit.specs.Move.{TwoDrives, IsSameUnit}
 use Rattle.logical_unit.specs.Route.{named}
 use Rattle.logical_unit.specs.UnitView.{UnitView}
-use Rattle.logical_unit.proofs.NamedDrives.{has_route}
-use Rattle.logical_unit.proofs.SameUnits.{decodes_move, one_same, two_same}
+use Rattle.logical_unit.proofs.NamedDrives.{has_errand, errand_asked}
+use Rattle.logical_unit.proofs.SameUnits.{one_same, two_same}
 use Rattle.logical_unit.proofs.History.{executes_keeps, executes_stays}
 use Rattle.device_server.proofs.SameDevice.{same_commands, reset_same}
 use Rattle.logical_unit.specs.Step.{Executes, LosesAs, IsLost, IsReset}
@@ -117,9 +117,9 @@ beside_grows us xs lun at u d e added there same g =
           record { unit = g.unit; place = get-set_other xs at lun e apart ∙ g.place; commands = g.commands; history = g.history }
     ] refl
 
--- a MOVE MEDIUM adds nothing to any history
+-- a MOVE MEDIUM or an EXCHANGE MEDIUM adds nothing to any history
 pub adds_nothing : (device : DeviceView) (n : Nexus) (cdb bytes : List ℕ) (r : Reply) (l : ℕ) (more : List ℕ) → named (commands_of device) (drives_of device) cdb ≡ l ∷ more → accepted_by (commands_of device) n cdb bytes r.status ≡ []
-adds_nothing device n cdb bytes r l more names = ap (accepted_as n r.status) (decodes_move device cdb bytes l more (has_route device cdb l more names))
+adds_nothing device n cdb bytes r l more names = ap (accepted_as n r.status) (errand_asked device cdb bytes l more (has_errand device cdb l more names))
 
 nothing_at : (us : List UnitView) (lun : ℕ) (u c : UnitView) (n : Nexus) (cdb bytes : List ℕ) (r : Reply) → slice_get us lun ≡ Some u → slice_get us 0 ≡ Some c → accepted_by (commands_of c.device) n cdb bytes r.status ≡ []
     → added_at lun 0 (accepted_by (commands_of u.device) n cdb bytes r.status) ≡ []

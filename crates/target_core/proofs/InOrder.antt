@@ -1,5 +1,5 @@
 -- The order of the units along steps, and the marks of the changer, which stay true of the drives.
-use Rattle.std.proofs.Common.{◌≡◌, ◌≢◌, ◌≤◌, ◌+◌, ◌-◌, ◌&&◌, ◌==◌, ℕ, zero, suc, Bool, true, false, List, [], ◌∷◌, length, Option, Some, None, Result, Ok, Err, refl, sym, ap, ◌∙◌, subst, inl, inr, arith}
+use Rattle.std.proofs.Common.{◌≡◌, ◌≢◌, ◌≤◌, ◌+◌, ◌-◌, ◌&&◌, ◌==◌, ℕ, zero, suc, Bool, true, false, List, [], ◌∷◌, length, Option, Some, None, is_some, Result, Ok, Err, refl, sym, ap, ◌∙◌, subst, inl, inr, arith}
 use Rattle.std.proofs.lemmas.Bool.Decides.{nat_tests}
 use Rattle.std.proofs.lemmas.List.{length-set}
 use Rattle.std.specs.Prelude.{◌⊎◌, cond, nat_le, nat_eq, slice_get, slice_set, IsOk}
@@ -7,6 +7,7 @@ use Rattle.std.specs.Cmp.Lexicographic.{pointwise}
 use Rattle.scsi_cdb.specs.declared.profile.CommandSet.{CommandSet}
 use Rattle.scsi_cdb.specs.declared.profile.Profile.{Profile}
 use Rattle.scsi_cdb.specs.declared.kind.Kind.TheVariants as kind
+use Rattle.scsi_cdb.specs.declared.request.Request.{Request}
 use Rattle.scsi_nexus.specs.declared.nexus.Nexus.{Nexus}
 use Rattle.scsi_sense.specs.declared.condition.Condition.{Condition}
 use Rattle.audit_log.specs.declared.record.Record.{Record}
@@ -16,18 +17,21 @@ use Rattle.device_server.specs.Marks.{marks, KeepsMarks}
 use Rattle.device_server.specs.View.{DeviceView, Drive, Changer, kind_of, profile_of, commands_of, drives_of, held_in, marked}
 use Rattle.device_server.specs.declared.fault.BadPlace.{BadPlace}
 use Rattle.device_server.proofs.SameDevice.{same_commands}
-use Rattle.device_server.proofs.MarkLemmas.{drives_give, drives_get, changers_give, changers_get, marks_one, each_is_marked, journeys_keep_marks}
+use Rattle.device_server.proofs.MarkLemmas.{drives_give, drives_get, changers_give, changers_get, marks_one, each_is_marked, journeys_keep_marks, exchanges_keep_marks}
 use Rattle.judgement.specs.declared.reply.Reply.{Reply}
-use Rattle.logical_unit.specs.Move.{TwoDrives, noting, unloaded, loaded, passed, carried_by_one, carried_one, upward, downward, carried_two, route_at, MovesOne, MovesTwo, IsSameUnit}
+use Rattle.logical_unit.specs.Move.{TwoDrives, noting, unloaded, loaded, passed, carried_by_one, exchanged_by, errand_noted, carried_with_one, carried_one, upward, downward, carried_two, errand_at, MovesOne, MovesTwo, IsSameUnit}
 use Rattle.logical_unit.specs.Medium.{taken_out, put_in}
-use Rattle.logical_unit.specs.Route.{drive_at, is_upward, named_by, named}
+use Rattle.logical_unit.specs.Route.{drive_at, is_upward, named_by, named_among, named_in, named}
 use Rattle.logical_unit.specs.Step.{Executes, drained}
 use Rattle.logical_unit.specs.UnitView.{UnitView}
+use Rattle.logical_unit.specs.declared.route.Errand.{Errand}
+use Rattle.logical_unit.specs.declared.route.Errand.TheVariants.{Move, Exchange}
+use Rattle.logical_unit.specs.declared.route.ExchangeRoute.{ExchangeRoute}
 use Rattle.logical_unit.specs.declared.route.Route.{Route}
-use Rattle.logical_unit.proofs.Halves.{is_out, is_in, is_unloaded, is_loaded, is_passed, came}
+use Rattle.logical_unit.proofs.Halves.{is_out, is_in, is_unloaded, is_loaded, is_passed, IsRemoved, IsPlaced, is_exchanged, came}
 use Rattle.logical_unit.proofs.History.{executes_stays, executes_marks}
 use Rattle.logical_unit.proofs.Moved.{Became, one_became, two_became}
-use Rattle.logical_unit.proofs.NamedDrives.{HasRoute, AreNamed, has_route, drive_within, named_two}
+use Rattle.logical_unit.proofs.NamedDrives.{Asks, HasRoute, AreNamed, IsAt, has_errand, has_route, drive_within, named_two, named_alone}
 use Rattle.logical_unit.proofs.SameUnits.{noting_same, one_same, two_same}
 use Rattle.target_core.proofs.Places.{same_some}
 use Rattle.target_core.specs.Faults.{is_drive_of, is_changer, are_drives, same_mark, agree, fault_of}
@@ -74,6 +78,17 @@ agree_set (x ∷ ms) (d ∷ ds) (suc i) m e h same =
     ap (λ b. b && agree (slice_set ms i m) (slice_set ds i e)) parts.0 ∙ agree_set ms ds i m e parts.1 same
 agree_set [] (d ∷ ds) i m e h same = absurd cc
 agree_set (x ∷ ms) [] i m e h same = absurd cc
+
+-- the same where the drive was set before
+agree_again : (ms : List (Option VolumeTag)) (ds : List UnitView) (i : ℕ) (m : Option VolumeTag) (d e : UnitView) → agree ms (slice_set ds i d) ≡ true → same_mark m (held_in e.device 0) ≡ true → agree (slice_set ms i m) (slice_set ds i e) ≡ true
+agree_again [] [] i m d e h same = refl
+agree_again (x ∷ ms) (z ∷ ds) zero m d e h same = let rest = (both (same_mark x (held_in d.device 0)) (agree ms ds) h).1 in ap (λ b. b && agree ms ds) same ∙ rest
+agree_again (x ∷ ms) (z ∷ ds) (suc i) m d e h same =
+    let parts = both (same_mark x (held_in z.device 0)) (agree ms (slice_set ds i d)) h in
+    ap (λ b. b && agree (slice_set ms i m) (slice_set ds i e)) parts.0 ∙ agree_again ms ds i m d e parts.1 same
+agree_again [] (z ∷ ds) zero m d e h same = absurd cc
+agree_again [] (z ∷ ds) (suc i) m d e h same = absurd cc
+agree_again (x ∷ ms) [] i m d e h same = absurd cc
 
 -- a drive with the same in its bay
 agree_drive : (ms : List (Option VolumeTag)) (ds : List UnitView) (i : ℕ) (d e : UnitView) → slice_get ds i ≡ Some d → held_in e.device 0 ≡ held_in d.device 0 → agree ms (slice_set ds i e) ≡ agree ms ds
@@ -238,9 +253,88 @@ module _ (c : UnitView) (ds : List UnitView) (o : IsOrdered c ds) (r : Route) wh
       (ap (λ (xs : List UnitView). agree (marks it.0) xs) (set_swap ds i j it.2 it.1 apart) ∙ passed_agrees j i ds'.high ds'.low it.1 it.2 it.0 source destination high low h)
   downward_agrees i j ds' es device (Err condition) apart source destination low high h e = absurd cc
 
+-- AN EXCHANGE with one drive, by its steps: the changer is of the same size, and its marks are true of the drives
+module _ (c : UnitView) (ds : List UnitView) (k : ℕ) where
+  record IsTrue (device : DeviceView) (d : UnitView) : Type 0 where
+    kind : kind_of device ≡ kind.Changer
+    size : drives_of device ≡ drives_of c.device
+    agrees : agree (marks device) (slice_set ds k d) ≡ true
+
+  removed_true : (of_drive : Bool) (device : DeviceView) (d : UnitView) (address : ℕ) (v : Volume) (after : DeviceView) (e : UnitView)
+      → (of_drive ≡ true → (address ≡ suc k + 0xFF) × (suc k ≤ drives_of c.device)) → IsTrue device d → IsRemoved of_drive device d address v after e → IsTrue after e
+  removed_true true device d address v after e at is step =
+      let size = noting_same device address None in
+      let place = at refl in
+      let marks_are : marks after ≡ slice_set (marks device) k None =
+      ap marks step.marks ∙ noting_mark device address k None place.0 (subst (λ n. suc k ≤ n) (sym is.size) place.1) in
+      record {
+        kind = ap kind_of step.marks ∙ size.kind ∙ is.kind;
+        size = ap drives_of step.marks ∙ size.drives ∙ is.size;
+        agrees = ap (λ (ms : List (Option VolumeTag)). agree ms (slice_set ds k e)) marks_are
+            ∙ agree_again (marks device) ds k None d e is.agrees (ap (same_mark None) (given_bay d e v step.gives.out));
+      }
+  removed_true false device d address v after e at is step =
+      let m = changers_give device after address v is.kind step.takes in
+      record {
+        kind = m.device.kind ∙ is.kind;
+        size = m.device.drives ∙ is.size;
+        agrees = ap (λ (ms : List (Option VolumeTag)). agree ms (slice_set ds k e)) m.marks ∙ ap (λ (u : UnitView). agree (marks device) (slice_set ds k u)) step.same ∙ is.agrees;
+      }
+
+  placed_true : (of_drive : Bool) (device : DeviceView) (d : UnitView) (address : ℕ) (v : Volume) (after : DeviceView) (e : UnitView)
+      → (of_drive ≡ true → (address ≡ suc k + 0xFF) × (suc k ≤ drives_of c.device)) → IsTrue device d → IsPlaced of_drive device d address v after e → IsTrue after e
+  placed_true true device d address v after e at is step =
+      let size = noting_same device address (Some v.tag) in
+      let place = at refl in
+      let marks_are : marks after ≡ slice_set (marks device) k (Some v.tag) =
+      ap marks step.marks ∙ noting_mark device address k (Some v.tag) place.0 (subst (λ n. suc k ≤ n) (sym is.size) place.1) in
+      record {
+        kind = ap kind_of step.marks ∙ size.kind ∙ is.kind;
+        size = ap drives_of step.marks ∙ size.drives ∙ is.size;
+        agrees = ap (λ (ms : List (Option VolumeTag)). agree ms (slice_set ds k e)) marks_are
+            ∙ agree_again (marks device) ds k (Some v.tag) d e is.agrees (ap (same_mark (Some v.tag)) (taken_bay d e v step.comes) ∙ true_mark v.tag);
+      }
+  placed_true false device d address v after e at is step =
+      let m = changers_get device after address v is.kind step.puts in
+      record {
+        kind = m.device.kind ∙ is.kind;
+        size = m.device.drives ∙ is.size;
+        agrees = ap (λ (ms : List (Option VolumeTag)). agree ms (slice_set ds k e)) m.marks ∙ ap (λ (u : UnitView). agree (marks device) (slice_set ds k u)) step.same ∙ is.agrees;
+      }
+
+  at_place : (drive : Option ℕ) (address : ℕ) → drive ≡ drive_at (drives_of c.device) address → IsAt drive (suc k) → is_some drive ≡ true
+      → (address ≡ suc k + 0xFF) × (suc k ≤ drives_of c.device)
+  at_place drive address is (inl none) some = let no : false ≡ true = sym (ap (λ (o : Option ℕ). is_some o) none) ∙ some in absurd cc
+  at_place drive address is (inr one) some = let w = drive_within (drives_of c.device) address (suc k) (sym is ∙ one) in (w.2, w.1)
+
+  exchanged_agrees : (o : IsOrdered c ds) (x : ExchangeRoute) (d e : UnitView) (device : DeviceView) → slice_get ds k ≡ Some d → x.from ≡ drive_at (drives_of c.device) x.source
+      → x.between ≡ drive_at (drives_of c.device) x.first → x.to ≡ drive_at (drives_of c.device) x.second → named_among x.from x.between x.to ≡ suc k ∷ []
+      → exchanged_by c.device d x (is_some x.from) (is_some x.between) (is_some x.to) ≡ Ok (device, e) → agree (marks device) (slice_set ds k e) ≡ true
+  exchanged_agrees o x d e device there from between to names h =
+      let s = is_exchanged c.device d x (is_some x.from) (is_some x.between) (is_some x.to) device e h in
+      let n = named_alone x.from x.between x.to (suc k) [] names in
+      let at_source = at_place x.from x.source from n.from_is in
+      let at_first = at_place x.between x.first between n.between_is in
+      let at_second = at_place x.to x.second to n.to_is in
+      let start : IsTrue c.device d = record { kind = o.kind; size = refl; agrees = agree_drive (marks c.device) ds k d d there refl ∙ o.marked } in
+      let a = removed_true (is_some x.from) c.device d x.source s.one s.without_one s.drive_one at_source start s.source in
+      let b = removed_true (is_some x.between) s.without_one s.drive_one x.first s.other s.without_both s.drive_both at_first a s.first in
+      let p = placed_true (is_some x.between) s.without_both s.drive_both x.first s.one s.with_one s.drive_with at_first b s.places in
+      (placed_true (is_some x.to) s.with_one s.drive_with x.second s.other device e at_second p s.second).agrees
+
+-- what is noted of either leaves the marks
+noted_marks : (errand : Errand) (device : DeviceView) → marks (errand_noted errand device) ≡ marks device
+noted_marks (Move r) device = (journeys_keep_marks device r.source r.destination).marks
+noted_marks (Exchange x) device = (exchanges_keep_marks device x.source x.first x.second).marks
+
+errand_agrees : (c : UnitView) (ds : List UnitView) (o : IsOrdered c ds) (k : ℕ) (d e : UnitView) (device : DeviceView) (q : Request) (errand : Errand) → slice_get ds k ≡ Some d
+    → Asks (drives_of c.device) q errand → named_in (Some errand) ≡ suc k ∷ [] → carried_with_one c.device d errand ≡ Ok (device, e) → agree (marks device) (slice_set ds k e) ≡ true
+errand_agrees c ds o k d e device q (Move r) there a names h = by_one_agrees c ds o r k d e device r.from r.to a.from a.to names h
+errand_agrees c ds o k d e device q (Exchange x) there a names h = exchanged_agrees c ds k o x d e device there a.from a.between a.to names h
+
 -- WITH THE DRIVES THAT ARE NAMED
 module _ (c : UnitView) (ds : List UnitView) (o : IsOrdered c ds) (n : Nexus) (cdb bytes : List ℕ) (r : Reply) where
-  one_marked : (k : ℕ) (d v e : UnitView) → slice_get ds k ≡ Some d → named (commands_of c.device) (drives_of c.device) cdb ≡ suc k ∷ [] → Became c v n cdb bytes r d e (carried_one c.device d (route_at c cdb)) → agree (marks v.device) (slice_set ds k e) ≡ true
+  one_marked : (k : ℕ) (d v e : UnitView) → slice_get ds k ≡ Some d → named (commands_of c.device) (drives_of c.device) cdb ≡ suc k ∷ [] → Became c v n cdb bytes r d e (carried_one c.device d (errand_at c cdb)) → agree (marks v.device) (slice_set ds k e) ≡ true
   one_marked k d v e there names (inl alone) =
       ap (λ (ms : List (Option VolumeTag)). agree ms (slice_set ds k e)) (executes_marks c v n cdb bytes r alone.0).marks
       ∙ agree_drive (marks c.device) ds k d e there (ap (λ (u : UnitView). held_in u.device 0) alone.1) ∙ o.marked
@@ -248,12 +342,12 @@ module _ (c : UnitView) (ds : List UnitView) (o : IsOrdered c ds) (n : Nexus) (c
       ap (λ (x : UnitView × Reply). agree (marks x.0.device) (slice_set ds k e)) halted.ends.unit
       ∙ agree_drive (marks c.device) ds k d e there (ap (λ (u : UnitView). held_in u.device 0) halted.drives_stay) ∙ o.marked
   one_marked k d v e there names (inr (inr moved)) =
-      let q = has_route c.device cdb (suc k) [] names in
-      let w = came q.route (carried_by_one c.device d q.route q.route.from q.route.to) moved.device e (sym (ap (carried_one c.device d) q.is) ∙ moved.is) in
+      let q = has_errand c.device cdb (suc k) [] names in
+      let w = came q.errand (carried_with_one c.device d q.errand) moved.device e (sym (ap (carried_one c.device d) q.is) ∙ moved.is) in
       ap (λ (x : UnitView × Reply). agree (marks x.0.device) (slice_set ds k e)) moved.ends.unit
       ∙ ap (λ (x : DeviceView). agree (marks x) (slice_set ds k e)) w.notes
-      ∙ ap (λ (ms : List (Option VolumeTag)). agree ms (slice_set ds k e)) (journeys_keep_marks w.mid q.route.source q.route.destination).marks
-      ∙ by_one_agrees c ds o q.route k d e w.mid q.route.from q.route.to q.decodes.from q.decodes.to q.names w.carries
+      ∙ ap (λ (ms : List (Option VolumeTag)). agree ms (slice_set ds k e)) (noted_marks q.errand w.mid)
+      ∙ errand_agrees c ds o k d e w.mid q.decodes.request q.errand there q.asks q.names w.carries
 
   one_order : (k : ℕ) (d : UnitView) (ms : List UnitView) → slice_get ds k ≡ Some d → named (commands_of c.device) (drives_of c.device) cdb ≡ suc k ∷ [] → AtDrive (c ∷ ds) (suc k) (MovesOne c d n cdb bytes) (ms, r) → fault_of ms ≡ None
   one_order k d ms there names a =
@@ -265,22 +359,22 @@ module _ (c : UnitView) (ds : List UnitView) (o : IsOrdered c ds) (n : Nexus) (c
   abbrev pub by_way : TwoDrives → Route → Bool → Result (DeviceView × TwoDrives) Condition
   by_way ds' q up = cond up (upward (passed c.device ds'.low ds'.high q)) (downward (passed c.device ds'.high ds'.low q))
 
-  by_ways : (i j : ℕ) (ds' es : TwoDrives) (device : DeviceView) (more : List ℕ) (q : HasRoute c.device cdb (suc i) more) → i ≢ j
+  by_ways : (i j : ℕ) (ds' es : TwoDrives) (device : DeviceView) (more : List ℕ) (q : HasRoute c.device cdb (suc i) (suc j) more) → i ≢ j
       → AreNamed q.route.from q.route.to (suc i) (suc j) true ⊎ AreNamed q.route.from q.route.to (suc j) (suc i) false
       → by_way ds' q.route (is_upward q.route.from q.route.to) ≡ Ok (device, es) → agree (marks device) (slice_set (slice_set ds i es.low) j es.high) ≡ true
   by_ways i j ds' es device more q apart (inl up) h =
-      let low = drive_within (drives_of c.device) q.route.source (suc i) (sym q.decodes.from ∙ up.from_is) in
-      let high = drive_within (drives_of c.device) q.route.destination (suc j) (sym q.decodes.to ∙ up.to_is) in
+      let low = drive_within (drives_of c.device) q.route.source (suc i) (sym q.from ∙ up.from_is) in
+      let high = drive_within (drives_of c.device) q.route.destination (suc j) (sym q.to ∙ up.to_is) in
       upward_agrees c ds o q.route i j ds' es device (passed c.device ds'.low ds'.high q.route) low.2 high.2 low.1 high.1 refl (sym (ap (by_way ds' q.route) up.way) ∙ h)
   by_ways i j ds' es device more q apart (inr down) h =
-      let high = drive_within (drives_of c.device) q.route.source (suc j) (sym q.decodes.from ∙ down.from_is) in
-      let low = drive_within (drives_of c.device) q.route.destination (suc i) (sym q.decodes.to ∙ down.to_is) in
+      let high = drive_within (drives_of c.device) q.route.source (suc j) (sym q.from ∙ down.from_is) in
+      let low = drive_within (drives_of c.device) q.route.destination (suc i) (sym q.to ∙ down.to_is) in
       downward_agrees c ds o q.route i j ds' es device (passed c.device ds'.high ds'.low q.route) apart high.2 low.2 low.1 high.1 refl (sym (ap (by_way ds' q.route) down.way) ∙ h)
 
   module _ (i j : ℕ) (ds' : TwoDrives) (low : slice_get ds i ≡ Some ds'.low) (high : slice_get ds j ≡ Some ds'.high) (more : List ℕ) (names : named (commands_of c.device) (drives_of c.device) cdb ≡ suc i ∷ suc j ∷ more) where
     apart : i ≢ j
     apart = λ e.
-        let q = has_route c.device cdb (suc i) (suc j ∷ more) names in
+        let q = has_route c.device cdb (suc i) (suc j) more names in
         let less = (named_two q.route.from q.route.to (suc i) (suc j) more q.names).0 in
         absurd (omega (arith, e, less))
 
@@ -289,7 +383,7 @@ module _ (c : UnitView) (ds : List UnitView) (o : IsOrdered c ds) (n : Nexus) (c
     agree_both es first second =
         agree_drive (marks c.device) (slice_set ds i es.low) j ds'.high es.high (get-set_other ds i j es.low apart ∙ high) second ∙ agree_drive (marks c.device) ds i ds'.low es.low low first ∙ o.marked
 
-    two_marked : (v : UnitView) (es : TwoDrives) → Became c v n cdb bytes r ds' es (carried_two c.device ds' (route_at c cdb)) → agree (marks v.device) (slice_set (slice_set ds i es.low) j es.high) ≡ true
+    two_marked : (v : UnitView) (es : TwoDrives) → Became c v n cdb bytes r ds' es (carried_two c.device ds' (errand_at c cdb)) → agree (marks v.device) (slice_set (slice_set ds i es.low) j es.high) ≡ true
     two_marked v es (inl alone) =
         ap (λ (ms : List (Option VolumeTag)). agree ms (slice_set (slice_set ds i es.low) j es.high)) (executes_marks c v n cdb bytes r alone.0).marks
         ∙ agree_both es (ap (λ (x : TwoDrives). held_in x.low.device 0) alone.1) (ap (λ (x : TwoDrives). held_in x.high.device 0) alone.1)
@@ -297,12 +391,12 @@ module _ (c : UnitView) (ds : List UnitView) (o : IsOrdered c ds) (n : Nexus) (c
         ap (λ (x : UnitView × Reply). agree (marks x.0.device) (slice_set (slice_set ds i es.low) j es.high)) halted.ends.unit
         ∙ agree_both es (ap (λ (x : TwoDrives). held_in x.low.device 0) halted.drives_stay) (ap (λ (x : TwoDrives). held_in x.high.device 0) halted.drives_stay)
     two_marked v es (inr (inr moved)) =
-        let q = has_route c.device cdb (suc i) (suc j ∷ more) names in
-        let w = came q.route (by_way ds' q.route (is_upward q.route.from q.route.to)) moved.device es (sym (ap (carried_two c.device ds') q.is) ∙ moved.is) in
+        let q = has_route c.device cdb (suc i) (suc j) more names in
+        let w = came (Move q.route) (by_way ds' q.route (is_upward q.route.from q.route.to)) moved.device es (sym (ap (carried_two c.device ds') q.is) ∙ moved.is) in
         ap (λ (x : UnitView × Reply). agree (marks x.0.device) (slice_set (slice_set ds i es.low) j es.high)) moved.ends.unit
         ∙ ap (λ (x : DeviceView). agree (marks x) (slice_set (slice_set ds i es.low) j es.high)) w.notes
-        ∙ ap (λ (ms : List (Option VolumeTag)). agree ms (slice_set (slice_set ds i es.low) j es.high)) (journeys_keep_marks w.mid q.route.source q.route.destination).marks
-        ∙ by_ways i j ds' es w.mid (suc j ∷ more) q apart (named_two q.route.from q.route.to (suc i) (suc j) more q.names).1 w.carries
+        ∙ ap (λ (ms : List (Option VolumeTag)). agree ms (slice_set (slice_set ds i es.low) j es.high)) (noted_marks (Move q.route) w.mid)
+        ∙ by_ways i j ds' es w.mid more q apart (named_two q.route.from q.route.to (suc i) (suc j) more q.names).1 w.carries
 
     two_order : (ms : List UnitView) → AtDrives (c ∷ ds) (suc i) (suc j) (MovesTwo c ds' n cdb bytes) (ms, r) → fault_of ms ≡ None
     two_order ms a =

@@ -2,6 +2,7 @@
 use Rattle.std.proofs.Common.{◌≡◌, ◌≤◌, ◌<◌, ◌+◌, ◌==◌, ◌&&◌, ℕ, zero, suc, Bool, true, false, List, [], ◌∷◌, length, Option, Some, None, refl, sym, ap, ◌∙◌, subst, inl, inr, arith}
 use Rattle.std.proofs.lemmas.Bool.Decides.{nat_tests}
 use Rattle.std.specs.Prelude.{cond, nat_le, nat_eq, drop, slice_get, ◌⊎◌}
+use Rattle.scsi_cdb.specs.declared.request.Request.{Request}
 use Rattle.scsi_cdb.specs.declared.kind.Kind.{Kind}
 use Rattle.scsi_cdb.specs.declared.kind.Kind.TheVariants as kind
 use Rattle.scsi_cdb.specs.declared.profile.Profile.{Profile}
@@ -9,9 +10,11 @@ use Rattle.scsi_cdb.specs.declared.profile.Profile.TheVariants.{Spec, Hosts}
 use Rattle.tape_medium.specs.declared.volume.VolumeTag.{VolumeTag}
 use Rattle.device_server.specs.Marks.{marks}
 use Rattle.device_server.specs.View.{DeviceView, Drive, Changer, kind_of, profile_of, commands_of, drives_of, held_in}
-use Rattle.logical_unit.specs.Route.{drive_at, named}
+use Rattle.logical_unit.specs.Route.{drive_at, named_among, named_in, named}
 use Rattle.logical_unit.specs.UnitView.{UnitView, UnitWithRoom, units_of}
-use Rattle.logical_unit.proofs.NamedDrives.{BothNamed, has_route, drive_within, named_one, named_two}
+use Rattle.logical_unit.specs.declared.route.Errand.{Errand}
+use Rattle.logical_unit.specs.declared.route.Errand.TheVariants.{Move, Exchange}
+use Rattle.logical_unit.proofs.NamedDrives.{Asks, BothNamed, IsAt, has_errand, has_route, drive_within, named_one, named_two, named_alone}
 use Rattle.target_core.specs.Faults.{is_drive, is_drive_of, same_profile, is_changer, are_drives, is_in_order, same_mark, agree, fault_of, profile_in}
 use Rattle.target_core.specs.declared.order.CoreFault.TheVariants.{Count, Order, Disagree}
 
@@ -124,10 +127,26 @@ one_within : (from to : Option ℕ) (drives source destination l : ℕ) → (fro
 one_within from to drives source destination l (inl is) f t = let w = drive_within drives source l (sym f ∙ is) in (w.0, w.1)
 one_within from to drives source destination l (inr is) f t = let w = drive_within drives destination l (sym t ∙ is) in (w.0, w.1)
 
+alone_within : (drive other another : Option ℕ) (drives address first second l : ℕ) → IsAt drive l → IsAt other l → IsAt another l → drive ≡ drive_at drives address → other ≡ drive_at drives first
+    → another ≡ drive_at drives second → named_among drive other another ≡ l ∷ [] → (1 ≤ l) × (l ≤ drives)
+alone_within drive other another drives address first second l (inr is) q p f g h names = let w = drive_within drives address l (sym f ∙ is) in (w.0, w.1)
+alone_within drive other another drives address first second l (inl none) (inr is) p f g h names = let w = drive_within drives first l (sym g ∙ is) in (w.0, w.1)
+alone_within drive other another drives address first second l (inl none) (inl off) (inr is) f g h names = let w = drive_within drives second l (sym h ∙ is) in (w.0, w.1)
+alone_within drive other another drives address first second l (inl none) (inl off) (inl nor) f g h names =
+    let empty : named_among None None None ≡ l ∷ [] =
+    sym (ap (λ (x : Option ℕ). named_among x other another) none ∙ ap (λ (x : Option ℕ). named_among None x another) off ∙ ap (λ (x : Option ℕ). named_among None None x) nor) ∙ names in
+    absurd cc
+
+errand_within : (drives : ℕ) (q : Request) (e : Errand) (l : ℕ) → Asks drives q e → named_in (Some e) ≡ l ∷ [] → (1 ≤ l) × (l ≤ drives)
+errand_within drives q (Move r) l a names = one_within r.from r.to drives r.source r.destination l (named_one r.from r.to l names) a.from a.to
+errand_within drives q (Exchange x) l a names =
+    let s = named_alone x.from x.between x.to l [] names in
+    alone_within x.from x.between x.to drives x.source x.first x.second l s.from_is s.between_is s.to_is a.from a.between a.to names
+
 pub one_named : (device : DeviceView) (cdb : List ℕ) (l : ℕ) → named (commands_of device) (drives_of device) cdb ≡ l ∷ [] → (1 ≤ l) × (l ≤ drives_of device)
 one_named device cdb l h =
-    let r = has_route device cdb l [] h in
-    one_within r.route.from r.route.to (drives_of device) r.route.source r.route.destination l (named_one r.route.from r.route.to l r.names) r.decodes.from r.decodes.to
+    let r = has_errand device cdb l [] h in
+    errand_within (drives_of device) r.decodes.request r.errand l r.asks r.names
 
 two_within : (from to : Option ℕ) (drives source destination l m : ℕ) → BothNamed from to l m → from ≡ drive_at drives source → to ≡ drive_at drives destination → (1 ≤ l) × (l < m) × (m ≤ drives)
 two_within from to drives source destination l m (less, inl up) f t =
@@ -141,8 +160,8 @@ two_within from to drives source destination l m (less, inr down) f t =
 
 pub two_named : (device : DeviceView) (cdb : List ℕ) (l m : ℕ) (more : List ℕ) → named (commands_of device) (drives_of device) cdb ≡ l ∷ m ∷ more → (1 ≤ l) × (l < m) × (m ≤ drives_of device)
 two_named device cdb l m more h =
-    let r = has_route device cdb l (m ∷ more) h in
-    two_within r.route.from r.route.to (drives_of device) r.route.source r.route.destination l m (named_two r.route.from r.route.to l m more r.names) r.decodes.from r.decodes.to
+    let r = has_route device cdb l m more h in
+    two_within r.route.from r.route.to (drives_of device) r.route.source r.route.destination l m (named_two r.route.from r.route.to l m more r.names) r.from r.to
 
 -- no marks are left where there are as many drives
 pub agree_end : (ms : List (Option VolumeTag)) (k : ℕ) → k ≤ length ms → nat_eq k (length ms) ≡ agree (drop k ms) []

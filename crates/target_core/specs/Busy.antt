@@ -12,7 +12,7 @@ use Rattle.logical_unit.specs.UnitView.{UnitWithRoom}
 use Rattle.target_core.specs.declared.event.Event.{Event}
 use Rattle.target_core.specs.declared.event.Event.TheVariants.{Command, Loss, Reset}
 
--- a MOVE MEDIUM at the changer c, with the drives that it names if they are there: as the changer and they have room
+-- a MOVE MEDIUM or EXCHANGE MEDIUM at the changer c, with the drives that it names if they are there: as the changer and they have room
 abbrev pub MoveIsBusyOnlyFor : UnitWithRoom → Option UnitWithRoom → Nexus → (cdb bytes : List ℕ) → Reply → Type 0
 MoveIsBusyOnlyFor c None n cdb bytes r = IsBusyOnlyFor c n cdb bytes r
 MoveIsBusyOnlyFor c (Some d) n cdb bytes r = OneIsBusyOnlyFor c d n cdb bytes r

@@ -33,7 +33,7 @@ pub record AtDrives (us : List UnitView) (low high : ℕ) (Does : (UnitView × R
   pub step : Does ((changer, new.1), drives)
   pub units : new.0 ≡ slice_set (slice_set (slice_set us 0 changer) low drives.low) high drives.high
 
--- a MOVE MEDIUM at the changer c with the drives that it names, if they are there; without them the changer answers alone
+-- a MOVE MEDIUM or EXCHANGE MEDIUM at the changer c with the drives that it names, if they are there; without them the changer answers alone
 abbrev pub MovesWith : List UnitView → UnitView → ℕ → Option UnitView → Nexus → (cdb bytes : List ℕ) → List UnitView × Reply → Type 0
 MovesWith us c drive None n cdb bytes new = AtUnit us 0 (Executes c n cdb bytes) new
 MovesWith us c drive (Some d) n cdb bytes new = AtDrive us drive (MovesOne c d n cdb bytes) new
@@ -42,7 +42,7 @@ abbrev pub MovesBetween : List UnitView → UnitView → (low high : ℕ) → (d
 MovesBetween us c low high (Some d) (Some e) n cdb bytes new = AtDrives us low high (MovesTwo c (record { low = d; high = e }) n cdb bytes) new
 MovesBetween us c low high d e n cdb bytes new = AtUnit us 0 (Executes c n cdb bytes) new
 
--- a command to the changer, by the drives that it names: a MOVE MEDIUM one or two, any other none
+-- a command to the changer, by the drives that it names: a MOVE MEDIUM one or two, an EXCHANGE MEDIUM one, any other none
 abbrev pub CommandsNaming : List UnitView → UnitView → List ℕ → Nexus → (cdb bytes : List ℕ) → List UnitView × Reply → Type 0
 CommandsNaming us c [] n cdb bytes new = AtUnit us 0 (Executes c n cdb bytes) new
 CommandsNaming us c (drive ∷ []) n cdb bytes new = MovesWith us c drive (slice_get us drive) n cdb bytes new

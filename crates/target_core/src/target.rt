@@ -80,7 +80,7 @@ fn command_at<D: DeviceServer>(
     execute_at(alloc, &mut units[lun], nexus, cdb, bytes)
 }
 
-/// A MOVE MEDIUM at the changer that names one of the drives.
+/// A MOVE MEDIUM or EXCHANGE MEDIUM at the changer that names one of the drives.
 fn move_at<D: DeviceServer>(
     alloc: Global,
     changer: &mut LogicalUnit<D>,
@@ -144,7 +144,7 @@ fn command_with_drives<D: DeviceServer>(
     }
 }
 
-/// A command to the changer: a MOVE MEDIUM goes to it with the drives that it names.
+/// A command to the changer: a MOVE MEDIUM or EXCHANGE MEDIUM goes to it with the drives that it names.
 fn command_to_changer<D: DeviceServer>(
     alloc: Global,
     units: &mut [LogicalUnit<D>],

@@ -23,14 +23,14 @@ use Rattle.device_server.specs.declared.fault.PutFault.{PutFault}
 use Rattle.device_server.specs.declared.fault.TakeFault.{TakeFault}
 use Rattle.device_server.proofs.FailureLemmas.{changers_fail_for_drives}
 use Rattle.judgement.specs.UnitState.{is_prevented, with_medium}
-use Rattle.logical_unit.specs.MoveJudgement.{HasWays}
+use Rattle.logical_unit.specs.MoveJudgement.{HasRouteWays}
 use Rattle.logical_unit.specs.Medium.{taken_as, put_as}
 use Rattle.logical_unit.specs.Move.{names_held, given, received, unloaded, loaded, passed}
 use Rattle.logical_unit.specs.Route.{drive_at}
 use Rattle.logical_unit.specs.Step.{with_event}
 use Rattle.logical_unit.specs.UnitView.{UnitView}
 use Rattle.logical_unit.specs.declared.route.Route.{Route}
-use Rattle.logical_unit.proofs.FreeEnds.{has_ways}
+use Rattle.logical_unit.proofs.FreeEnds.{route_ways}
 use Rattle.logical_unit.proofs.Halves.{received_as, put_down, unloaded_by, taken_up, loaded_by, handed, passed_by, out_by, in_by, given_by}
 use Rattle.logical_unit.proofs.NamedDrives.{drive_within}
 use Rattle.target_core.specs.Faults.{same_mark, agree}
@@ -41,7 +41,7 @@ use Rattle.target_core.proofs.Ordered.{both, IsOrdered}
 abbrev pub held_by : Elements → Element → Option VolumeTag
 held_by e x = elim (tag_in e x) as (λ _. Option VolumeTag) [ Ok tag ↦ tag | Err fault ↦ None ]
 
-held_is : (e : Elements) (x : Element) (t : Option VolumeTag) → tag_held e x ≡ Some t → held_by e x ≡ t
+pub held_is : (e : Elements) (x : Element) (t : Option VolumeTag) → tag_held e x ≡ Some t → held_by e x ≡ t
 held_is e Transport t h = absurd cc
 held_is e (DataTransfer i) t h = cc
 held_is e (ImportExport i) t h = cc
@@ -59,7 +59,7 @@ transport_is : (transport : Bool) (x y : Option (Option VolumeTag)) → cond tra
 transport_is true x y h = h
 transport_is false x y h = absurd cc
 
-none_is : (o : Option MapFault) → is_none o ≡ true → o ≡ None
+pub none_is : (o : Option MapFault) → is_none o ≡ true → o ≡ None
 none_is None h = refl
 none_is (Some fault) h = absurd cc
 
@@ -68,7 +68,7 @@ pub record IsAllowed (device : DeviceView) (r : Route) : Type 0 where
   pub tag : VolumeTag
   pub full : held_in device r.source ≡ Some tag
   pub empty : held_in device r.destination ≡ None
-  pub ways : HasWays device r
+  pub ways : HasRouteWays device r
 
 pub left_allowed : (device : DeviceView) (transport : ℕ) (r : Route) (invert : Bool) (bytes : List ℕ) → kind_of device ≡ kind.Changer → r.from ≡ drive_at (drives_of device) r.source → r.to ≡ drive_at (drives_of device) r.destination
     → is_failure (performed device (MoveMedium transport r.source r.destination invert) bytes).1.sense ≡ true → IsAllowed device r
@@ -84,7 +84,7 @@ left_allowed (Changer v) transport r invert bytes k from to left =
       tag = found.0;
       full = held_is e (element_at e r.source) (Some found.0) found.1;
       empty = held_is e (element_at e r.destination) None found.2;
-      ways = has_ways v transport r free from to;
+      ways = route_ways v transport r free from to;
     }
 
 -- THE MARKS. The address of a drive is that of its data transfer element
@@ -109,7 +109,7 @@ drive_element e address k h =
     (address - first_data_transfer) (address - first_import_export) (address - first_storage) apart among
     ∙ ap element_of number
 
-mark_at : (device : DeviceView) (address k : ℕ) → kind_of device ≡ kind.Changer → drive_at (drives_of device) address ≡ Some (suc k) → held_in device address ≡ slice_index_or (marks device) k None
+pub mark_at : (device : DeviceView) (address k : ℕ) → kind_of device ≡ kind.Changer → drive_at (drives_of device) address ≡ Some (suc k) → held_in device address ≡ slice_index_or (marks device) k None
 mark_at (Drive d) address k changer h = absurd cc
 mark_at (Changer v) address k changer h = ap (held_by v.elements) (drive_element v.elements address k h)
 
@@ -172,7 +172,7 @@ gives_by mark d v left false k takes p names =
           ∙ ap (λ b. cond b (named_ok it) (Err InternalTargetFailure)) names,
     )
 
-gives : (m : VolumeTag) (mark held : Option VolumeTag) (d : UnitView) → kind_of d.device ≡ kind.Drive → mark ≡ Some m → held_in d.device 0 ≡ held → same_mark mark held ≡ true → Gives mark d
+pub gives : (m : VolumeTag) (mark held : Option VolumeTag) (d : UnitView) → kind_of d.device ≡ kind.Drive → mark ≡ Some m → held_in d.device 0 ≡ held → same_mark mark held ≡ true → Gives mark d
 gives m mark None d k is bay same = let no : same_mark (Some m) None ≡ true = subst (λ (x : Option VolumeTag). same_mark x None ≡ true) is same in absurd cc
 gives m mark (Some tag) d k is bay same =
     let t = full_bay d.device tag k bay in
@@ -184,7 +184,7 @@ gives m mark (Some tag) d k is bay same =
 abbrev pub Receives : UnitView → Type 0
 Receives d = (v : Volume) → (e : UnitView) × (received d v ≡ Ok e)
 
-receives : (held : Option VolumeTag) (d : UnitView) → kind_of d.device ≡ kind.Drive → held_in d.device 0 ≡ held → same_mark None held ≡ true → Receives d
+pub receives : (held : Option VolumeTag) (d : UnitView) → kind_of d.device ≡ kind.Drive → held_in d.device 0 ≡ held → same_mark None held ≡ true → Receives d
 receives (Some tag) d k bay same = absurd cc
 receives None d k bay same = λ v.
     let t = empty_bay d.device v k bay in (

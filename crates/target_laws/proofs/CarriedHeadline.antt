@@ -4,6 +4,7 @@ use Rattle.std.specs.Prelude.{◌⊎◌, slice_get}
 use Rattle.scsi_cdb.specs.Commands as commands
 use Rattle.scsi_cdb.specs.declared.request.Request.TheVariants as request
 use Rattle.scsi_nexus.specs.declared.nexus.Nexus.{Nexus}
+use Rattle.scsi_sense.specs.declared.condition.Condition.{Condition}
 use Rattle.scsi_sense.specs.declared.status.Status.TheVariants.{Good, CheckCondition, Busy}
 use Rattle.pr_core.specs.State.{keys_after, power_on}
 use Rattle.pr_core.specs.declared.verdict.Verdict.TheVariants.{Allowed}
@@ -12,6 +13,7 @@ use Rattle.tape_medium.specs.declared.volume.VolumeTag.{VolumeTag}
 use Rattle.device_server.specs.View.{DeviceView, commands_of, drives_of, held_in, profile_of, journeyed}
 use Rattle.device_server.specs.declared.fault.TakeFault.{TakeFault}
 use Rattle.judgement.specs.Readings.{verdict_of}
+use Rattle.judgement.specs.Replies.{check}
 use Rattle.judgement.specs.declared.command.Command.{Command}
 use Rattle.judgement.specs.declared.command.Command.TheVariants as command
 use Rattle.judgement.specs.declared.reply.Reply.{Reply}
@@ -19,15 +21,17 @@ use Rattle.unit_laws.specs.Check.{ComesToTheCheck}
 use Rattle.unit_laws.specs.MoveRows.{first_tag, second_tag, move, drive_1, slot_1, slot_2, changer_of, empty_drive}
 use Rattle.unit_laws.specs.Rows.{a, b, volume, drive_prevented}
 use Rattle.logical_unit.specs.Medium.{put_in}
-use Rattle.logical_unit.specs.Move.{MovesOne, is_left, noting, moved_one, route_at}
-use Rattle.logical_unit.specs.Route.{named}
+use Rattle.logical_unit.specs.Move.{MovesOne, is_left, noting, moved_one, errand_at}
+use Rattle.logical_unit.specs.Route.{named, records_of}
 use Rattle.logical_unit.specs.UnitView.{UnitView}
 use Rattle.logical_unit.specs.declared.medium_fault.MediumFault.{MediumFault}
+use Rattle.logical_unit.specs.declared.route.Errand.{Errand}
+use Rattle.logical_unit.specs.declared.route.Errand.TheVariants.{Move}
 use Rattle.logical_unit.specs.declared.route.Route.{Route}
 use Rattle.target_core.proofs.Places.{same_some}
 use Rattle.target_core.specs.Run.{AtDrive, CommandsNaming}
 use Rattle.target_laws.specs.CarriedRows.{inward, device_by, before, after, changer_with, drive_with, at_first, moved, IsServedSo, GoesInward, VolumeGoes, VolumeDoesNotGo, MoveIsNotServed, prevented, sense, checked, changer_checking, MoveStops, NoDriveMoves}
-use Rattle.target_laws.specs.Headline.{AreThere, IsWithDrives, behind, IsCarriedOut, IsStopped, IsServed}
+use Rattle.target_laws.specs.Headline.{AreThere, IsWithDrives, behind, HasEnd, IsCarriedOut, IsStopped, IsServed}
 use Rattle.target_laws.specs.LibraryRows.{test_unit_ready}
 use Rattle.target_laws.specs.Rows.{good_with}
 use Rattle.target_laws.proofs.CommandInARun.{is_served}
@@ -46,18 +50,18 @@ names : named (commands_of before) (drives_of before) (move slot_1 drive_1) ≡ 
 unfolding commands.command_of profile_of
 names = refl
 
-asks : route_at (changer_of before) (move slot_1 drive_1) ≡ Some inward
+asks : errand_at (changer_of before) (move slot_1 drive_1) ≡ Some (Move inward)
 unfolding commands.command_of profile_of
 asks = refl
 
-asks_none : route_at (changer_of before) test_unit_ready ≡ None
+asks_none : errand_at (changer_of before) test_unit_ready ≡ None
 unfolding commands.command_of profile_of
 asks_none = refl
 
 served : IsServedSo moved
 served =
     let at : AtDrive at_first 1 (MovesOne (changer_of before) (empty_drive 1) a (move slot_1 drive_1) []) (moved, good_with 1) =
-    record { changer = changer_with after; other = drive_with first_tag; step = inr (refl, omega arith, λ carried. omega arith, moves); units = refl } in
+    record { changer = changer_with after; other = drive_with first_tag; step = inr (refl, omega arith, λ carried. let one : records_of (errand_at (changer_of before) (move slot_1 drive_1)) ≡ 1 = ap records_of asks in omega (arith, one), moves); units = refl } in
     is_served power_on at_first moved 0 (changer_of before) a (move slot_1 drive_1) [] (good_with 1) refl refl
     (subst (λ (l : List ℕ). CommandsNaming at_first (changer_of before) l a (move slot_1 drive_1) [] (moved, good_with 1)) (sym names) at)
 
@@ -76,7 +80,7 @@ pub volume_goes : VolumeGoes
 volume_goes = record {
   goes = goes;
   served = served;
-  drive = record { changer = refl; good = refl; way = inward; asked = asks; end = inr refl; goes = goes };
+  drive = record { changer = refl; good = refl; way = Move inward; asked = asks; end = inr refl; goes = goes };
 }
 
 -- the changer with the mark of a volume, and the way that it went
@@ -108,7 +112,7 @@ module _ (us : List UnitView) (device : DeviceView) (g : GoesInward us device) w
 abbrev sixth : VolumeTag → ℕ
 sixth tag = get_or tag.0 5 0
 
-other_tag : second_tag ≢ first_tag
+pub other_tag : second_tag ≢ first_tag
 other_tag h = let bytes : 0x32 ≡ 0x31 = ap sixth h in absurd (omega (arith, bytes))
 
 -- the tag in a drive's bay, and what a changer's elements show
@@ -171,21 +175,21 @@ with_drives : IsWithDrives at_first 0 (changer_of before) (move slot_1 drive_1)
 with_drives = record { changer = refl; some = λ e. let no = sym names ∙ e in cc; there = subst (AreThere at_first) (sym names) (refl, tt) }
 
 -- what is served of a move that was left to the drives, they decide
-module _ (mid us : List UnitView) (c v : UnitView) (n : Nexus) (cdb : List ℕ) (asked : Command) (r : Reply) (way : Route) (there : slice_get mid 0 ≡ Some c) (stays : slice_get us 0 ≡ Some v) (free : r.status ≢ Busy) (comes : ComesToTheCheck c n cdb [] asked)
-    (allowed : verdict_of power_on n asked ≡ Allowed) (left_open : is_left (behind c n asked []).2.sense ≡ true) (with_drives : IsWithDrives mid 0 c cdb) (asks : route_at c cdb ≡ Some way) where
-  by_drives : IsServed power_on mid us 0 n cdb [] r → IsCarriedOut mid us c v n [] asked r way ⊎ IsStopped mid c v n [] asked r way
+module _ (mid us : List UnitView) (c v : UnitView) (n : Nexus) (cdb : List ℕ) (asked : Command) (r : Reply) (way : Errand) (there : slice_get mid 0 ≡ Some c) (stays : slice_get us 0 ≡ Some v) (free : r.status ≢ Busy) (comes : ComesToTheCheck c n cdb [] asked)
+    (allowed : verdict_of power_on n asked ≡ Allowed) (left_open : is_left (behind c n asked []).2.sense ≡ true) (with_drives : IsWithDrives mid 0 c cdb) (asks : errand_at c cdb ≡ Some way) where
+  pub by_drives : IsServed power_on mid us 0 n cdb [] r → IsCarriedOut mid us c v n [] asked r way ⊎ IsStopped mid c v n [] asked r way
   by_drives h =
       let it = is_answered_so power_on mid us 0 c v n cdb [] r there stays free h in
       let into = (it.decided asked comes).let_in allowed in
       elim into.goes_on [
         | inl own ↦ let no : true ≡ false = sym left_open ∙ own.not_left with_drives in absurd cc
-        | inr by ↦ subst (λ (w : Route). IsCarriedOut mid us c v n [] asked r w ⊎ IsStopped mid c v n [] asked r w) (same_some by.way way (sym by.asked ∙ asks)) by.ends
+        | inr by ↦ subst (λ (w : Errand). IsCarriedOut mid us c v n [] asked r w ⊎ IsStopped mid c v n [] asked r w) (same_some by.way way (sym by.asked ∙ asks)) by.ends
       ]
 
 goes_served : (v d : UnitView) → IsServedSo (v ∷ d ∷ []) → GoesInward (v ∷ d ∷ []) v.device
 goes_served v d h =
     let us = v ∷ d ∷ [] in
-    elim (by_drives at_first us (changer_of before) v a (move slot_1 drive_1) asked (good_with 1) inward refl refl (λ e. cc) comes allowed left_open with_drives asks h) [
+    elim (by_drives at_first us (changer_of before) v a (move slot_1 drive_1) asked (good_with 1) (Move inward) refl refl (λ e. cc) comes allowed left_open with_drives asks h) [
       | inl carried ↦ subst (λ (x : DeviceView). GoesInward us x) (sym (ap (λ (x : UnitView × Reply). x.0.device) carried.ends)) carried.goes
       | inr stopped ↦ let no : Good ≡ CheckCondition = ap (λ (x : UnitView × Reply). x.1.status) stopped.ends in absurd cc
     ]
@@ -212,7 +216,7 @@ names_out : named (commands_of after) (drives_of after) (move drive_1 slot_2) �
 unfolding commands.command_of profile_of
 names_out = refl
 
-asks_out : route_at (changer_of after) (move drive_1 slot_2) ≡ Some outward
+asks_out : errand_at (changer_of after) (move drive_1 slot_2) ≡ Some (Move outward)
 unfolding commands.command_of profile_of
 asks_out = refl
 
@@ -227,25 +231,25 @@ served_stopped : IsServed power_on prevented (changer_checking b after (sense 5 
 served_stopped =
     let us = changer_checking b after (sense 5 0x53 0x02) ∷ drive_prevented first_tag ∷ [] in
     let at : AtDrive prevented 1 (MovesOne (changer_of after) (drive_prevented first_tag) b (move drive_1 slot_2) []) (us, checked (sense 5 0x53 0x02)) =
-    record { changer = changer_checking b after (sense 5 0x53 0x02); other = drive_prevented first_tag; step = inr (refl, omega arith, λ carried. omega arith, stops); units = refl } in
+    record { changer = changer_checking b after (sense 5 0x53 0x02); other = drive_prevented first_tag; step = inr (refl, omega arith, λ carried. let one : records_of (errand_at (changer_of after) (move drive_1 slot_2)) ≡ 1 = ap records_of asks_out in omega (arith, one), stops); units = refl } in
     is_served power_on prevented us 0 (changer_of after) b (move drive_1 slot_2) [] (checked (sense 5 0x53 0x02)) refl refl
     (subst (λ (l : List ℕ). CommandsNaming prevented (changer_of after) l b (move drive_1 slot_2) [] (us, checked (sense 5 0x53 0x02))) (sym names_out) at)
 
-abbrev asc_of : Reply → ℕ
+abbrev pub asc_of : Reply → ℕ
 asc_of r = elim r.sense [ Some it ↦ it.asc | None ↦ 0 ]
 
 other_sense : ¬ IsServed power_on prevented (changer_checking b after (sense 4 0x44 0x00) ∷ drive_prevented first_tag ∷ []) 0 b (move drive_1 slot_2) [] (checked (sense 4 0x44 0x00))
 other_sense h =
     let v = changer_checking b after (sense 4 0x44 0x00) in
-    elim (by_drives prevented (v ∷ drive_prevented first_tag ∷ []) (changer_of after) v b (move drive_1 slot_2) asked_out (checked (sense 4 0x44 0x00)) outward refl refl (λ e. cc) comes_out allowed_out left_out with_out asks_out h) [
+    elim (by_drives prevented (v ∷ drive_prevented first_tag ∷ []) (changer_of after) v b (move drive_1 slot_2) asked_out (checked (sense 4 0x44 0x00)) (Move outward) refl refl (λ e. cc) comes_out allowed_out left_out with_out asks_out h) [
       | inl carried ↦ let no : CheckCondition ≡ Good = ap (λ (x : UnitView × Reply). x.1.status) carried.ends in cc
-      | inr stopped ↦ let no : 0x44 ≡ 0x53 = ap (λ (x : UnitView × Reply). asc_of x.1) stopped.ends in absurd (omega (arith, no))
+      | inr stopped ↦ let no : 0x44 ≡ 0x53 = ap (λ (x : UnitView × Reply). asc_of x.1) stopped.ends ∙ ap (λ (condition : Condition). asc_of (check condition)) stopped.reported in absurd (omega (arith, no))
     ]
 
 for_nothing : ¬ IsServed power_on at_first (changer_checking a before (sense 4 0x44 0x00) ∷ empty_drive 1 ∷ []) 0 a (move slot_1 drive_1) [] (checked (sense 4 0x44 0x00))
 for_nothing h =
     let v = changer_checking a before (sense 4 0x44 0x00) in
-    elim (by_drives at_first (v ∷ empty_drive 1 ∷ []) (changer_of before) v a (move slot_1 drive_1) asked (checked (sense 4 0x44 0x00)) inward refl refl (λ e. cc) comes allowed left_open with_drives asks h) [
+    elim (by_drives at_first (v ∷ empty_drive 1 ∷ []) (changer_of before) v a (move slot_1 drive_1) asked (checked (sense 4 0x44 0x00)) (Move inward) refl refl (λ e. cc) comes allowed left_open with_drives asks h) [
       | inl carried ↦ let no : CheckCondition ≡ Good = ap (λ (x : UnitView × Reply). x.1.status) carried.ends in cc
       | inr stopped ↦ stopped.none moved after goes
     ]
@@ -273,9 +277,10 @@ no_drive_moves = record {
   not_good = λ m. let no = m.good in cc;
   at_a_drive = λ m. let no = m.changer in cc;
   other_drive = λ m.
-      let way : m.way ≡ inward = same_some m.way inward (sym m.asked ∙ asks) in
-      elim m.end [
-        | inl e ↦ let no : ◌≡◌ {A = Option ℕ} None (Some 2) = sym (ap (λ (w : Route). w.from) way) ∙ e in cc
-        | inr e ↦ let no : ◌≡◌ {A = Option ℕ} (Some 1) (Some 2) = sym (ap (λ (w : Route). w.to) way) ∙ e in cc
+      let way : m.way ≡ Move inward = same_some m.way (Move inward) (sym m.asked ∙ asks) in
+      let end : HasEnd (Move inward) 2 = subst (λ (w : Errand). HasEnd w 2) way m.end in
+      elim end [
+        | inl e ↦ let no : ◌≡◌ {A = Option ℕ} None (Some 2) = e in cc
+        | inr e ↦ let no : ◌≡◌ {A = Option ℕ} (Some 1) (Some 2) = e in cc
       ];
 }

@@ -1,6 +1,6 @@
 -- Each event of a run leaves the cartridges of the target, each as often as before.
 use Rattle.std.proofs.Common.{◌≡◌, ◌≢◌, ℕ, zero, suc, Bool, true, false, List, [], ◌∷◌, ◌++◌, IsPermutation, Option, Some, None, Result, Ok, Err, refl, sym, ap, ◌∙◌, subst, inl, inr, arith}
-use Rattle.std.proofs.lemmas.List.Sorted.{IsPermutation-refl, IsPermutation-sym, IsPermutation-trans, IsPermutation-middle, IsPermutation-map, IsPermutation-append_left, IsPermutation-append_right}
+use Rattle.std.proofs.lemmas.List.Sorted.{IsPermutation-sym, IsPermutation-trans, IsPermutation-middle, IsPermutation-map, IsPermutation-append_left, IsPermutation-append_right}
 use Rattle.std.specs.Prelude.{◌⊎◌, ◌&&◌, cond, slice_get, slice_set}
 use Rattle.scsi_cdb.specs.declared.kind.Kind.TheVariants as kind
 use Rattle.scsi_nexus.specs.declared.nexus.Nexus.{Nexus}
@@ -12,23 +12,26 @@ use Rattle.device_server.proofs.TapeLemmas.{same_volume, resets_keep_volumes}
 use Rattle.judgement.specs.declared.reply.Reply.{Reply}
 use Rattle.judgement.specs.Commands.{decoded_command}
 use Rattle.judgement.specs.History.{is_good}
-use Rattle.logical_unit.specs.Move.{TwoDrives, noting, unloaded, loaded, passed, carried_by_one, carried_one, upward, downward, carried_by_two, carried_two, route_at}
+use Rattle.logical_unit.specs.Move.{TwoDrives, noting, unloaded, loaded, passed, carried_by_one, carried_with_one, carried_one, upward, downward, carried_by_two, carried_two, errand_noted, errand_at}
 use Rattle.logical_unit.specs.Route.{is_upward}
 use Rattle.logical_unit.specs.Step.{Executes}
 use Rattle.logical_unit.specs.UnitView.{UnitView}
+use Rattle.logical_unit.specs.declared.route.Errand.{Errand}
+use Rattle.logical_unit.specs.declared.route.Errand.TheVariants.{Move, Exchange}
 use Rattle.logical_unit.specs.declared.route.Route.{Route}
 use Rattle.logical_unit.proofs.Halves.{is_unloaded, is_loaded, is_passed, came}
 use Rattle.logical_unit.proofs.History.{executes_stays}
 use Rattle.logical_unit.proofs.Moved.{Became, carried_to, one_became, two_became}
-use Rattle.logical_unit.proofs.NamedDrives.{has_route, named_two}
+use Rattle.logical_unit.proofs.NamedDrives.{has_errand, has_route, named_two}
 use Rattle.target_core.specs.declared.event.Event.{Event}
 use Rattle.target_core.specs.declared.event.Event.TheVariants as event
 use Rattle.target_laws.specs.Cartridges.{Cartridge, cartridge_of, cartridges_of, cartridges, CartridgesStay}
 use Rattle.target_core.specs.Faults.{fault_of}
 use Rattle.target_core.specs.Run.{LosesAt, ResetsAt, Steps}
-use Rattle.target_laws.specs.Volumes.{Way, way_of, writes, StaysSame}
+use Rattle.target_laws.specs.Volumes.{Way, Carried, Exchanged, way_of, writes, StaysSame}
 use Rattle.target_laws.proofs.CartridgeDevices.{drive_same, noting_volumes, journey_volumes, drive_gives, drive_gets, changer_gives, changer_gets}
-use Rattle.target_core.proofs.Places.{same_some}
+use Rattle.target_laws.proofs.CartridgeExchanges.{exchange_stay}
+use Rattle.target_laws.proofs.CartridgePlaces.{equal, keeps, empties, fills}
 use Rattle.target_laws.proofs.CommandWays.{Goes, goes}
 use Rattle.target_laws.proofs.Devices.{executed}
 use Rattle.target_core.proofs.History.{get-set_other}
@@ -38,40 +41,6 @@ use Rattle.target_laws.proofs.Parts.{set-same}
 use Rattle.target_laws.proofs.StaysTarget.{step_order}
 use Rattle.target_laws.proofs.VolumeCarries.{three_ok}
 use Rattle.target_laws.proofs.VolumeSteps.{drive_does, CarriesBy, changer_does, lost_device, reset_device}
-
-equal : (xs ys : List Cartridge) → ys ≡ xs → IsPermutation xs ys
-equal xs ys is = subst (IsPermutation xs) (sym is) (IsPermutation-refl xs)
-
--- AMONG UNITS, one takes the place of another
-keeps : (us : List UnitView) (k : ℕ) (d e : UnitView) → slice_get us k ≡ Some d → cartridges_of e.device ≡ cartridges_of d.device → cartridges (slice_set us k e) ≡ cartridges us
-keeps [] k d e there same = refl
-keeps (z ∷ us) zero d e there same = ap (λ (cs : List Cartridge). cs ++ cartridges us) (same ∙ ap (λ (u : UnitView). cartridges_of u.device) (sym (same_some z d there)))
-keeps (z ∷ us) (suc k) d e there same = ap (λ (cs : List Cartridge). cartridges_of z.device ++ cs) (keeps us k d e there same)
-
-empties : (us : List UnitView) (k : ℕ) (d e : UnitView) (x : Cartridge) → slice_get us k ≡ Some d → cartridges_of d.device ≡ x ∷ [] → cartridges_of e.device ≡ [] → IsPermutation (cartridges us) (x ∷ cartridges (slice_set us k e))
-empties [] k d e x there full empty = absurd cc
-empties (z ∷ us) zero d e x there full empty =
-    equal (cartridges (z ∷ us)) (x ∷ cartridges (e ∷ us))
-    (ap (λ (cs : List Cartridge). x ∷ (cs ++ cartridges us)) empty
-    ∙ sym (ap (λ (cs : List Cartridge). cs ++ cartridges us) (ap (λ (u : UnitView). cartridges_of u.device) (same_some z d there) ∙ full)))
-empties (z ∷ us) (suc k) d e x there full empty =
-    let first = cartridges_of z.device in
-    let rest = cartridges (slice_set us k e) in
-    IsPermutation-trans (first ++ cartridges us) (first ++ x ∷ rest) (x ∷ (first ++ rest))
-    (IsPermutation-append_right first (cartridges us) (x ∷ rest) (empties us k d e x there full empty)) (IsPermutation-middle first x rest)
-
-fills : (us : List UnitView) (k : ℕ) (d e : UnitView) (x : Cartridge) → slice_get us k ≡ Some d → cartridges_of d.device ≡ [] → cartridges_of e.device ≡ x ∷ [] → IsPermutation (x ∷ cartridges us) (cartridges (slice_set us k e))
-fills [] k d e x there empty full = absurd cc
-fills (z ∷ us) zero d e x there empty full =
-    equal (x ∷ cartridges (z ∷ us)) (cartridges (e ∷ us))
-    (ap (λ (cs : List Cartridge). cs ++ cartridges us) full
-    ∙ sym (ap (λ (cs : List Cartridge). x ∷ (cs ++ cartridges us)) (ap (λ (u : UnitView). cartridges_of u.device) (same_some z d there) ∙ empty)))
-fills (z ∷ us) (suc k) d e x there empty full =
-    let first = cartridges_of z.device in
-    let rest = cartridges (slice_set us k e) in
-    IsPermutation-trans (x ∷ (first ++ cartridges us)) (first ++ x ∷ cartridges us) (first ++ rest)
-    (IsPermutation-sym (first ++ x ∷ cartridges us) (x ∷ (first ++ cartridges us)) (IsPermutation-middle first x (cartridges us)))
-    (IsPermutation-append_right first (x ∷ cartridges us) rest (fills us k d e x there empty full))
 
 -- one goes over from the drives to the changer, or comes
 goes_over : (x : Cartridge) (c d after rest : List Cartridge) → IsPermutation (x ∷ c) after → IsPermutation d (x ∷ rest) → IsPermutation (c ++ d) (after ++ rest)
@@ -144,6 +113,12 @@ module _ (c v : UnitView) (ds : List UnitView) (r : Route) (changer : kind_of c.
   by_way i j ds' es true apart low high h = upward_stay i j ds' es (passed c.device ds'.low ds'.high r) apart low high refl h
   by_way i j ds' es false apart low high h = downward_stay i j ds' es (passed c.device ds'.high ds'.low r) apart low high refl h
 
+-- WHAT IS ASKED OF VOLUMES with one drive
+with_one : (c v : UnitView) (ds : List UnitView) (q : Errand) → kind_of c.device ≡ kind.Changer → (unnoted : DeviceView) → v.device ≡ errand_noted q unnoted → (k : ℕ) (d e : UnitView) → slice_get ds k ≡ Some d
+    → carried_with_one c.device d q ≡ Ok (unnoted, e) → IsPermutation (cartridges (c ∷ ds)) (cartridges (v ∷ slice_set ds k e))
+with_one c v ds (Move q) changer unnoted notes k d e there h = by_one c v ds q changer unnoted notes q.from q.to k d e there h
+with_one c v ds (Exchange x) changer unnoted notes k d e there h = exchange_stay ds k d there c v e x changer unnoted notes h
+
 -- A COMMAND
 weaker : (to written : Bool) (before after : Option Volume) → SameAt (StaysSame to written) before after → SameAt SameCartridge before after
 weaker to written None None h = tt
@@ -155,7 +130,8 @@ weaker true true (Some v) (Some w) h = h
 
 by_carries : (a b : DeviceView) (w : Option Way) → CarriesBy a b w → IsPermutation (cartridges_of a) (cartridges_of b)
 by_carries a b None is = equal (cartridges_of a) (cartridges_of b) (ap cartridges_of is)
-by_carries a b (Some w) h = IsPermutation-map cartridge_of (volumes_of a) (volumes_of b) h.all
+by_carries a b (Some (Carried source destination)) h = IsPermutation-map cartridge_of (volumes_of a) (volumes_of b) h.all
+by_carries a b (Some (Exchanged source first second)) h = IsPermutation-map cartridge_of (volumes_of a) (volumes_of b) h.all
 
 module _ (c : UnitView) (ds : List UnitView) (o : IsOrdered c ds) (n : Nexus) (cdb bytes : List ℕ) (r : Reply) where
   alone_stay : (v : UnitView) → Executes c n cdb bytes (v, r) → IsPermutation (cartridges (c ∷ ds)) (cartridges (v ∷ ds))
@@ -189,25 +165,25 @@ module _ (c : UnitView) (ds : List UnitView) (o : IsOrdered c ds) (n : Nexus) (c
   commands_stay ms at (inr (inl it)) = equal (cartridges (c ∷ ds)) (cartridges ms) (ap cartridges it.step.units ∙ own_stay it.place it.drive it.step.unit it.there it.step.step)
   commands_stay ms at (inr (inr (inl it))) = subst (λ (xs : List UnitView). IsPermutation (cartridges (c ∷ ds)) (cartridges xs)) (sym it.step.units) (alone_stay it.step.unit it.step.step)
   commands_stay ms at (inr (inr (inr (inl it)))) =
-      let q = has_route c.device cdb (suc it.place) [] it.names in
+      let q = has_errand c.device cdb (suc it.place) [] it.names in
       let v = it.step.changer in
       let e = it.step.other in
       subst (λ (xs : List UnitView). IsPermutation (cartridges (c ∷ ds)) (cartridges xs)) (sym it.step.units)
-      (move_stay v it.drive e (carried_one c.device it.drive (route_at c cdb)) (λ (x : UnitView). slice_set ds it.place x) (set-same ds it.place it.drive it.there)
+      (move_stay v it.drive e (carried_one c.device it.drive (errand_at c cdb)) (λ (x : UnitView). slice_set ds it.place x) (set-same ds it.place it.drive it.there)
       (λ h.
-      let w = came q.route (carried_by_one c.device it.drive q.route q.route.from q.route.to) v.device e (sym (ap (carried_one c.device it.drive) q.is) ∙ h) in
-      by_one c v ds q.route o.kind w.mid w.notes q.route.from q.route.to it.place it.drive e it.there w.carries)
+      let w = came q.errand (carried_with_one c.device it.drive q.errand) v.device e (sym (ap (carried_one c.device it.drive) q.is) ∙ h) in
+      with_one c v ds q.errand o.kind w.mid w.notes it.place it.drive e it.there w.carries)
       (one_became c it.drive v e n cdb bytes r (suc it.place) [] it.names it.step.step))
   commands_stay ms at (inr (inr (inr (inr it)))) =
-      let q = has_route c.device cdb (suc it.low) (suc it.high ∷ it.more) it.names in
+      let q = has_route c.device cdb (suc it.low) (suc it.high) it.more it.names in
       let less = (named_two q.route.from q.route.to (suc it.low) (suc it.high) it.more q.names).0 in
       let v = it.step.changer in
       let es = it.step.drives in
       subst (λ (xs : List UnitView). IsPermutation (cartridges (c ∷ ds)) (cartridges xs)) (sym it.step.units)
-      (move_stay v it.drives es (carried_two c.device it.drives (route_at c cdb)) (λ (x : TwoDrives). slice_set (slice_set ds it.low x.low) it.high x.high)
+      (move_stay v it.drives es (carried_two c.device it.drives (errand_at c cdb)) (λ (x : TwoDrives). slice_set (slice_set ds it.low x.low) it.high x.high)
       (ap (λ (xs : List UnitView). slice_set xs it.high it.drives.high) (set-same ds it.low it.drives.low it.low_there) ∙ set-same ds it.high it.drives.high it.high_there)
       (λ h.
-      let w = came q.route (carried_by_two c.device it.drives q.route) v.device es (sym (ap (carried_two c.device it.drives) q.is) ∙ h) in
+      let w = came (Move q.route) (carried_by_two c.device it.drives q.route) v.device es (sym (ap (carried_two c.device it.drives) q.is) ∙ h) in
       by_way c v ds q.route o.kind w.mid w.notes it.low it.high it.drives es (is_upward q.route.from q.route.to) (λ p. absurd (omega (arith, p, less))) it.low_there it.high_there w.carries)
       (two_became c v it.drives es n cdb bytes r (suc it.low) (suc it.high ∷ it.more) it.names it.step.step))
 

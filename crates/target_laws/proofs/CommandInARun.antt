@@ -7,10 +7,11 @@ use Rattle.scsi_sense.specs.declared.status.Status.{Status}
 use Rattle.judgement.specs.Commands.{act_of, act_of_decoded}
 use Rattle.judgement.specs.Replies.{good, check, IsWhole}
 use Rattle.judgement.proofs.Ways.{let_by}
-use Rattle.logical_unit.specs.Move.{TwoDrives, is_left, judged_at, route_at, carried_one, carried_two, MovesOne, MovesTwo, IsSameUnit}
+use Rattle.logical_unit.specs.Move.{TwoDrives, is_left, judged_at, errand_at, carried_one, carried_two, MovesOne, MovesTwo, IsSameUnit}
 use Rattle.logical_unit.specs.Route.{named}
-use Rattle.logical_unit.specs.declared.route.Route.{Route}
-use Rattle.logical_unit.proofs.NamedDrives.{has_route}
+use Rattle.logical_unit.specs.declared.route.Errand.{Errand}
+use Rattle.logical_unit.specs.declared.route.Errand.TheVariants.{Move}
+use Rattle.logical_unit.proofs.NamedDrives.{has_errand, has_route}
 use Rattle.logical_unit.proofs.LeftToDrives.{attention_ends, by_reset, by_other, is_allowed}
 use Rattle.logical_unit.proofs.Moved.{Ends, Became, one_became, two_became}
 use Rattle.logical_unit.proofs.SameUnits.{one_same, two_same}
@@ -44,9 +45,9 @@ use Rattle.judgement.specs.History.{accepted_by, after_history}
 use Rattle.target_core.specs.declared.event.Event.TheVariants as event
 use Rattle.target_core.specs.Run.{AtUnit, AtDrive, AtDrives, MovesWith, MovesBetween, CommandsNaming, CommandsAt}
 use Rattle.target_core.proofs.History.{get-set_same, get-set_other, adds_nothing}
-use Rattle.target_laws.specs.Headline.{by_history, refusal_record, IsRefused, AreThere, IsWithDrives, GoesBy, EndsWith, IsCarriedOut, IsStopped, IsLetIn, IsDecidedBy, IsBusy, IsBarred, IsAnswered, IsMovedAt, IsServed, Headline}
+use Rattle.target_laws.specs.Headline.{by_history, refusal_record, IsRefused, AreThere, IsWithDrives, GoBy, HasEnd, EndsWith, IsCarriedOut, IsStopped, IsLetIn, IsDecidedBy, IsBusy, IsBarred, IsAnswered, IsMovedAt, IsServed, Headline}
 use Rattle.judgement.proofs.Carried.{judged_free}
-use Rattle.target_laws.proofs.MoveWays.{Stops, one_goes, two_goes, one_stops, two_stop, end_one, ends_two, no_more}
+use Rattle.target_laws.proofs.MoveWays.{StopsBy, errand_goes, two_goes, errand_stops, two_stop, end_one, ends_two, no_more}
 use Rattle.target_laws.proofs.Parts.{parts, run_grows, set-same}
 
 -- a PERSISTENT RESERVE IN that ends GOOD was carried out
@@ -135,7 +136,7 @@ whole_busy s o (inl w) e = let is = w.0 in cc
 whole_busy s o (inr w) e = let is = w.0 in cc
 
 module _ (h : State) (mid next : List UnitView) (lun : ℕ) (now left : UnitView) (n : Nexus) (cdb bytes : List ℕ) (r : Reply) (same : now.state.reservations ≡ h) (device : DeviceView) (reply : Reply) (ends : Ends now left n cdb bytes r device reply) (whole : IsWhole reply.status reply.sense)
-    (with_drives : IsWithDrives mid lun now cdb) (way : Route) (asked : route_at now cdb ≡ Some way)
+    (with_drives : IsWithDrives mid lun now cdb) (way : Errand) (asked : errand_at now cdb ≡ Some way)
     (decides : (command : Command) → EndsWith now left n bytes command r device reply → IsCarriedOut mid next now left n bytes command r way ⊎ IsStopped mid now left n bytes command r way) where
   told : r.status ≡ reply.status
   told = ap (λ (x : UnitView × Reply). x.1.status) ends.unit
@@ -192,16 +193,16 @@ answer mid next h lun now left n cdb bytes r same units alone (inl e) =
 answer mid next h lun now left n cdb bytes r same units alone (inr e) = inr (is_answered h mid next lun now left n cdb bytes r same e.2 (alone (free now left n cdb bytes r e.2)) e.0 e.1)
 
 -- the answer of the changer with drives, which are as they were where it answers alone
-answer_by : {A : Type 0} (mid next : List UnitView) (h : State) (now left : UnitView) (n : Nexus) (cdb bytes : List ℕ) (r : Reply) (drives after : A) (carried : Result (DeviceView × A) Condition) (way : Route) → now.state.reservations ≡ h
-    → (left ≡ now → after ≡ drives → next ≡ mid) → IsWithDrives mid 0 now cdb → route_at now cdb ≡ Some way
-    → ((device : DeviceView) → carried ≡ Ok (device, after) → GoesBy mid next now.device device way)
-    → ((condition : Condition) → carried ≡ Err condition → Stops mid now.device way condition way.from way.to)
+answer_by : {A : Type 0} (mid next : List UnitView) (h : State) (now left : UnitView) (n : Nexus) (cdb bytes : List ℕ) (r : Reply) (drives after : A) (carried : Result (DeviceView × A) Condition) (way : Errand) → now.state.reservations ≡ h
+    → (left ≡ now → after ≡ drives → next ≡ mid) → IsWithDrives mid 0 now cdb → errand_at now cdb ≡ Some way
+    → ((device : DeviceView) → carried ≡ Ok (device, after) → GoBy mid next now.device device way)
+    → ((condition : Condition) → carried ≡ Err condition → StopsBy mid now.device way condition)
     → Became now left n cdb bytes r drives after carried → IsBusy mid next r ⊎ IsAnswered h mid next 0 now left n cdb bytes r
 answer_by mid next h now left n cdb bytes r drives after carried way same units with_drives asked goes stops (inl alone) = answer mid next h 0 now left n cdb bytes r same (λ is. units is alone.1) (λ free w. alone.2 free) alone.0
 answer_by mid next h now left n cdb bytes r drives after carried way same units with_drives asked goes stops (inr (inl halted)) =
     let stop = stops halted.condition halted.refused in
     inr (is_answered_left h mid next 0 now left n cdb bytes r same now.device (check halted.condition) halted.ends (inr (refl, refl)) with_drives way asked
-    (λ command e. inr (record { none = stop.1; ends = subst (λ (x : Condition). EndsWith now left n bytes command r now.device (check x)) stop.0 e })))
+    (λ command e. inr (record { none = stop.1; condition = halted.condition; reported = stop.0; ends = e })))
 answer_by mid next h now left n cdb bytes r drives after carried way same units with_drives asked goes stops (inr (inr moved)) =
     inr (is_answered_left h mid next 0 now left n cdb bytes r same moved.device (good []) moved.ends (inl (refl, refl)) with_drives way asked
     (λ command e. inl (record { device = moved.device; goes = goes moved.device moved.is; ends = e })))
@@ -240,8 +241,8 @@ move_leaves now left n cdb bytes r l more names same = same.reservations ∙ sym
 
 -- a drive of a move, by whether the volume was carried
 module _ {A : Type 0} where
-  beside : (mid next : List UnitView) (k : ℕ) (now left : UnitView) (n : Nexus) (cdb bytes : List ℕ) (r : Reply) (drives after : A) (carried : Result (DeviceView × A) Condition) (way : Route) (of : A → UnitView) → slice_get mid k ≡ Some (of drives) → slice_get next k ≡ Some (of after)
-      → route_at now cdb ≡ Some way → (way.from ≡ Some k) ⊎ (way.to ≡ Some k) → ((device : DeviceView) → carried ≡ Ok (device, after) → GoesBy mid next now.device device way)
+  beside : (mid next : List UnitView) (k : ℕ) (now left : UnitView) (n : Nexus) (cdb bytes : List ℕ) (r : Reply) (drives after : A) (carried : Result (DeviceView × A) Condition) (way : Errand) (of : A → UnitView) → slice_get mid k ≡ Some (of drives) → slice_get next k ≡ Some (of after)
+      → errand_at now cdb ≡ Some way → HasEnd way k → ((device : DeviceView) → carried ≡ Ok (device, after) → GoBy mid next now.device device way)
       → Became now left n cdb bytes r drives after carried → (slice_get next k ≡ slice_get mid k) ⊎ IsMovedAt mid next 0 now left cdb r k
   beside mid next k now left n cdb bytes r drives after carried way of there stays asked end goes (inl alone) = inl (stays ∙ ap (λ (a : A). some_unit (of a)) alone.1 ∙ sym there)
   beside mid next k now left n cdb bytes r drives after carried way of there stays asked end goes (inr (inl halted)) = inl (stays ∙ ap (λ (a : A). some_unit (of a)) halted.drives_stay ∙ sym there)
@@ -252,7 +253,7 @@ module _ {A : Type 0} where
         way = way;
         asked = asked;
         end = end;
-        goes = subst (λ (x : DeviceView). GoesBy mid next now.device x way) (sym (ap (λ (x : UnitView × Reply). x.0.device) moved.ends.unit)) (goes moved.device moved.is);
+        goes = subst (λ (x : DeviceView). GoBy mid next now.device x way) (sym (ap (λ (x : UnitView × Reply). x.0.device) moved.ends.unit)) (goes moved.device moved.is);
       })
 
 -- the drives of a move are there, or not
@@ -275,10 +276,10 @@ one_serves h mid next l now d n cdb bytes r there same drive names a =
     let first = slice_set mid 0 a.changer in
     let drive_there : slice_get first l ≡ Some d = get-set_other mid 0 l a.changer apart ∙ drive in
     let drive_stays : slice_get next l ≡ Some a.other = ap (λ (xs : List UnitView). slice_get xs l) a.units ∙ get-set_same first l a.other d drive_there in
-    let q = has_route now.device cdb l [] names in
-    let carried = carried_one now.device d (route_at now cdb) in
-    let by_route : carried_one now.device d (Some q.route) ≡ carried = sym (ap (carried_one now.device d) q.is) in
-    let goes : (device : DeviceView) → carried ≡ Ok (device, a.other) → GoesBy mid next now.device device q.route = λ device is. one_goes mid next now.device device q.route l d a.other q.names drive drive_stays (by_route ∙ is) in
+    let q = has_errand now.device cdb l [] names in
+    let carried = carried_one now.device d (errand_at now cdb) in
+    let by_route : carried_one now.device d (Some q.errand) ≡ carried = sym (ap (carried_one now.device d) q.is) in
+    let goes : (device : DeviceView) → carried ≡ Ok (device, a.other) → GoBy mid next now.device device q.errand = λ device is. errand_goes mid next now.device device q.errand l d a.other q.names drive drive_stays (by_route ∙ is) in
     record {
       left = a.changer;
       stays = ap (λ (xs : List UnitView). slice_get xs 0) a.units ∙ get-set_other first l 0 a.other (λ e. apart (sym e)) ∙ get-set_same mid 0 a.changer now there;
@@ -287,15 +288,15 @@ one_serves h mid next l now d n cdb bytes r there same drive names a =
         | true ↦ λ t.
             let is : l ≡ k = exact_unsigned_eq l k t in
             subst (λ i. (slice_get next i ≡ slice_get mid i) ⊎ IsMovedAt mid next 0 now a.changer cdb r i) is
-            (beside mid next l now a.changer n cdb bytes r d a.other carried q.route (λ x. x) drive drive_stays q.is (end_one q.route l q.names) goes b)
+            (beside mid next l now a.changer n cdb bytes r d a.other carried q.errand (λ x. x) drive drive_stays q.is (end_one q.errand l q.names) goes b)
         | false ↦ λ t.
             let other : l ≢ k = λ is. let yes : (l == k) ≡ true = eq-eqb l k is in cc in
             inl (ap (λ (xs : List UnitView). slice_get xs k) a.units ∙ get-set_other first l k a.other other ∙ get-set_other mid 0 k a.changer (λ e. off (sym e)))
       ] refl;
-      answers = answer_by mid next h now a.changer n cdb bytes r d a.other carried q.route same
+      answers = answer_by mid next h now a.changer n cdb bytes r d a.other carried q.errand same
           (λ is state. a.units ∙ ap (λ (u : UnitView). slice_set (slice_set mid 0 u) l a.other) is ∙ ap (λ (xs : List UnitView). slice_set xs l a.other) (set-same mid 0 now there) ∙ ap (slice_set mid l) state ∙ set-same mid l d drive)
           (record { changer = refl; some = some_named (named (commands_of now.device) (drives_of now.device) cdb) l [] names; there = subst (AreThere mid) (sym names) (there_is mid l d drive, tt) }) q.is goes
-          (λ condition is. one_stops mid now.device q.route condition l d q.names drive (by_route ∙ is)) b;
+          (λ condition is. errand_stops mid now.device q.errand condition l d q.names drive (by_route ∙ is)) b;
     }
 
 two_serves : (h : State) (mid next : List UnitView) (l m : ℕ) (more : List ℕ) (now : UnitView) (ds : TwoDrives) (n : Nexus) (cdb bytes : List ℕ) (r : Reply) → slice_get mid 0 ≡ Some now → now.state.reservations ≡ h → slice_get mid l ≡ Some ds.low → slice_get mid m ≡ Some ds.high
@@ -309,16 +310,16 @@ two_serves h mid next l m more now ds n cdb bytes r there same low high names a 
     let s = two_same now a.changer ds a.drives n cdb bytes r l (m ∷ more) names a.step in
     let first = slice_set mid 0 a.changer in
     let second = slice_set first l a.drives.low in
-    let q = has_route now.device cdb l (m ∷ more) names in
-    let carried = carried_two now.device ds (route_at now cdb) in
-    let by_route : carried_two now.device ds (Some q.route) ≡ carried = sym (ap (carried_two now.device ds) q.is) in
+    let q = has_route now.device cdb l m more names in
+    let carried = carried_two now.device ds (errand_at now cdb) in
+    let by_route : carried_two now.device ds (Some (Move q.route)) ≡ carried = sym (ap (carried_two now.device ds) q.is) in
     let ends = ends_two q.route l m more q.names in
     let low_there : slice_get first l ≡ Some ds.low = get-set_other mid 0 l a.changer one ∙ low in
     let high_there : slice_get second m ≡ Some ds.high = get-set_other first l m a.drives.low three ∙ get-set_other mid 0 m a.changer two ∙ high in
     let low_stays : slice_get next l ≡ Some a.drives.low
     = ap (λ (xs : List UnitView). slice_get xs l) a.units ∙ get-set_other second m l a.drives.high (λ e. three (sym e)) ∙ get-set_same first l a.drives.low ds.low low_there in
     let high_stays : slice_get next m ≡ Some a.drives.high = ap (λ (xs : List UnitView). slice_get xs m) a.units ∙ get-set_same second m a.drives.high ds.high high_there in
-    let goes : (device : DeviceView) → carried ≡ Ok (device, a.drives) → GoesBy mid next now.device device q.route =
+    let goes : (device : DeviceView) → carried ≡ Ok (device, a.drives) → GoBy mid next now.device device (Move q.route) =
     λ device is. two_goes mid next now.device device q.route l m more ds a.drives q.names low low_stays high high_stays (by_route ∙ is) in
     record {
       left = a.changer;
@@ -328,20 +329,20 @@ two_serves h mid next l m more now ds n cdb bytes r there same low high names a 
         | true ↦ λ t.
             let is : l ≡ k = exact_unsigned_eq l k t in
             subst (λ i. (slice_get next i ≡ slice_get mid i) ⊎ IsMovedAt mid next 0 now a.changer cdb r i) is
-            (beside mid next l now a.changer n cdb bytes r ds a.drives carried q.route (λ (x : TwoDrives). x.low) low low_stays q.is ends.0 goes b)
+            (beside mid next l now a.changer n cdb bytes r ds a.drives carried (Move q.route) (λ (x : TwoDrives). x.low) low low_stays q.is ends.0 goes b)
         | false ↦ λ t.
             let other : l ≢ k = λ is. let yes : (l == k) ≡ true = eq-eqb l k is in cc in
             elim (m == k) as (λ u. (m == k) ≡ u → (slice_get next k ≡ slice_get mid k) ⊎ IsMovedAt mid next 0 now a.changer cdb r k) [
               | true ↦ λ u.
                   let is : m ≡ k = exact_unsigned_eq m k u in
                   subst (λ i. (slice_get next i ≡ slice_get mid i) ⊎ IsMovedAt mid next 0 now a.changer cdb r i) is
-                  (beside mid next m now a.changer n cdb bytes r ds a.drives carried q.route (λ (x : TwoDrives). x.high) high high_stays q.is ends.1 goes b)
+                  (beside mid next m now a.changer n cdb bytes r ds a.drives carried (Move q.route) (λ (x : TwoDrives). x.high) high high_stays q.is ends.1 goes b)
               | false ↦ λ u.
                   let far : m ≢ k = λ is. let yes : (m == k) ≡ true = eq-eqb m k is in cc in
                   inl (ap (λ (xs : List UnitView). slice_get xs k) a.units ∙ get-set_other second m k a.drives.high far ∙ get-set_other first l k a.drives.low other ∙ get-set_other mid 0 k a.changer (λ e. off (sym e)))
             ] refl
       ] refl;
-      answers = answer_by mid next h now a.changer n cdb bytes r ds a.drives carried q.route same
+      answers = answer_by mid next h now a.changer n cdb bytes r ds a.drives carried (Move q.route) same
           (λ is state.
           a.units ∙ ap (λ (u : UnitView). slice_set (slice_set (slice_set mid 0 u) l a.drives.low) m a.drives.high) is
           ∙ ap (λ (xs : List UnitView). slice_set (slice_set xs l a.drives.low) m a.drives.high) (set-same mid 0 now there)

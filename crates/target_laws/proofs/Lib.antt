@@ -16,5 +16,11 @@ pub mod VolumeCarries
 pub mod VolumeSteps
 pub mod MovedRun
 pub mod CarriedHeadline
+pub mod ExchangedHeadline
 pub mod CartridgeDevices
 pub mod CartridgeSteps
+pub mod VolumeStill
+pub mod VolumeExchanges
+pub mod CartridgePlaces
+pub mod CartridgeExchanges
+pub mod ExchangeAgreement

@@ -1,7 +1,7 @@
 -- A move with drives, end by end: the volume goes its way, or none can and that is reported.
 use Rattle.std.proofs.Common.{◌≡◌, ◌<◌, ℕ, Bool, true, false, List, [], ◌∷◌, Option, Some, None, Result, Ok, Err, inl, inr, refl, sym, ap, ◌∙◌, subst, arith}
 use Rattle.std.proofs.lemmas.Map.Views.{exact_unsigned_eq}
-use Rattle.std.specs.Prelude.{◌⊎◌, cond, ◌==◌, nat_lt, slice_get}
+use Rattle.std.specs.Prelude.{◌⊎◌, ◌≢◌, cond, is_some, ◌==◌, nat_lt, slice_get}
 use Rattle.scsi_cdb.specs.declared.kind.Kind.{Kind}
 use Rattle.scsi_cdb.specs.declared.kind.Kind.TheVariants as kind
 use Rattle.scsi_sense.specs.declared.condition.Condition.{Condition}
@@ -13,20 +13,23 @@ use Rattle.device_server.specs.View.{DeviceView, kind_of, held_in, taken, put, j
 use Rattle.device_server.specs.Volumes.{volume_at, SameVolume, SameAt}
 use Rattle.device_server.specs.declared.fault.PutFault.{PutFault}
 use Rattle.device_server.specs.declared.fault.TakeFault.{TakeFault}
-use Rattle.device_server.proofs.PlaceLemmas.{takes_one, puts_one}
+use Rattle.device_server.proofs.PlaceLemmas.{takes_one, puts_one, exchanges_that_are_noted_move_nothing}
 use Rattle.judgement.specs.UnitState.{is_prevented}
 use Rattle.logical_unit.specs.Medium.{taken_as, taken_out, put_in}
-use Rattle.logical_unit.specs.Move.{TwoDrives, names_held, given, noting, unloaded, loaded, passed, carried_by_one, on_its_way, carried_one, upward, downward, carried_by_two, carried_two}
-use Rattle.logical_unit.specs.Route.{named_by}
+use Rattle.logical_unit.specs.Move.{TwoDrives, names_held, given, noting, unloaded, loaded, passed, carried_by_one, exchanged_by, on_its_way, carried_one, upward, downward, carried_by_two, carried_two}
+use Rattle.logical_unit.specs.Route.{named_by, named_among, named_in}
 use Rattle.logical_unit.specs.Step.{with_event}
 use Rattle.logical_unit.specs.UnitView.{UnitView}
 use Rattle.logical_unit.specs.declared.medium_fault.MediumFault.{MediumFault}
+use Rattle.logical_unit.specs.declared.route.Errand.{Errand}
+use Rattle.logical_unit.specs.declared.route.Errand.TheVariants.{Move, Exchange}
+use Rattle.logical_unit.specs.declared.route.ExchangeRoute.{ExchangeRoute}
 use Rattle.logical_unit.specs.declared.route.Route.{Route}
-use Rattle.logical_unit.proofs.Halves.{received_as, put_down, unloaded_by, taken_up, loaded_by, handed, passed_by, out_by, named_as, given_by, is_out, is_given, is_unloaded, is_loaded, is_passed, came}
-use Rattle.logical_unit.proofs.NamedDrives.{named_one, named_two}
+use Rattle.logical_unit.proofs.Halves.{received_as, put_down, unloaded_by, taken_up, loaded_by, handed, passed_by, out_by, named_as, given_by, is_out, is_given, is_unloaded, is_loaded, is_passed, IsRemoved, IsPlaced, is_exchanged, came}
+use Rattle.logical_unit.proofs.NamedDrives.{IsAlone, named_alone, named_one, named_two}
 use Rattle.target_core.proofs.Places.{same_some}
-use Rattle.target_laws.specs.Headline.{Goes, GoesBy, stop_at, stop_of}
-use Rattle.target_laws.proofs.VolumeCarries.{noting_still, journey_still, drive_gives_out, drive_takes_in}
+use Rattle.target_laws.specs.Headline.{Goes, GoesBy, Crosses, GoBy, HasEnd, stop_at, stop_of, Halts, IsReported}
+use Rattle.target_laws.proofs.VolumeStill.{noting_still, journey_still, drive_gives_out, drive_takes_in}
 
 -- a drive that stands at a number stands at an equal one
 at : (us : List UnitView) (a l : ℕ) (d : UnitView) → a ≡ l → slice_get us l ≡ Some d → slice_get us a ≡ Some d
@@ -131,15 +134,15 @@ module _ (mid next : List UnitView) (c device : DeviceView) (q : Route) (unnoted
       ]
 
 module _ (mid next : List UnitView) (c device : DeviceView) (q : Route) where
-  pub one_goes : (l : ℕ) (d e : UnitView) → named_by q.from q.to ≡ l ∷ [] → slice_get mid l ≡ Some d → slice_get next l ≡ Some e → carried_one c d (Some q) ≡ Ok (device, e) → GoesBy mid next c device q
+  pub one_goes : (l : ℕ) (d e : UnitView) → named_by q.from q.to ≡ l ∷ [] → slice_get mid l ≡ Some d → slice_get next l ≡ Some e → carried_one c d (Some (Move q)) ≡ Ok (device, e) → GoesBy mid next c device q
   one_goes l d e names there stays h =
-      let w = came q (carried_by_one c d q q.from q.to) device e h in
+      let w = came (Move q) (carried_by_one c d q q.from q.to) device e h in
       by_one mid next c device q w.mid w.notes l d e q.from q.to names there stays w.carries
 
   pub two_goes : (l m : ℕ) (more : List ℕ) (ds es : TwoDrives) → named_by q.from q.to ≡ l ∷ m ∷ more → slice_get mid l ≡ Some ds.low → slice_get next l ≡ Some es.low → slice_get mid m ≡ Some ds.high → slice_get next m ≡ Some es.high
-      → carried_two c ds (Some q) ≡ Ok (device, es) → GoesBy mid next c device q
+      → carried_two c ds (Some (Move q)) ≡ Ok (device, es) → GoesBy mid next c device q
   two_goes l m more ds es names low lower high higher h =
-      let w = came q (carried_by_two c ds q) device es h in
+      let w = came (Move q) (carried_by_two c ds q) device es h in
       by_two mid next c device q w.mid w.notes l m more ds es names low lower high higher w.carries
 
 -- WHAT IS REPORTED of a drive that doesn't give its volume, and where the volume doesn't come down
@@ -251,7 +254,7 @@ module _ (mid ms : List UnitView) (c device : DeviceView) (q : Route) where
       subst (λ (o : Option Volume). SameAt SameVolume o (Some g.volume)) into.empty out.full
 
 -- what isn't carried isn't noted
-unnoted_stops : {A : Type 0} (q : Route) (carried : Result (DeviceView × A) Condition) (condition : Condition) → on_its_way q carried ≡ Err condition → carried ≡ Err condition
+unnoted_stops : {A : Type 0} (q : Errand) (carried : Result (DeviceView × A) Condition) (condition : Condition) → on_its_way q carried ≡ Err condition → carried ≡ Err condition
 unnoted_stops {A} q (Ok it) condition h = absurd cc
 unnoted_stops {A} q (Err reported) condition h = h
 
@@ -298,8 +301,8 @@ module _ (mid : List UnitView) (c : DeviceView) (q : Route) (condition : Conditi
         λ ms device g. not_itself mid ms c device q a b l d one.1 other there g,
       )
 
-  pub one_stops : (l : ℕ) (d : UnitView) → named_by q.from q.to ≡ l ∷ [] → slice_get mid l ≡ Some d → carried_one c d (Some q) ≡ Err condition → Stops mid c q condition q.from q.to
-  one_stops l d names there h = stop_by l d q.from q.to names there (unnoted_stops q (carried_by_one c d q q.from q.to) condition h)
+  pub one_stops : (l : ℕ) (d : UnitView) → named_by q.from q.to ≡ l ∷ [] → slice_get mid l ≡ Some d → carried_one c d (Some (Move q)) ≡ Err condition → Stops mid c q condition q.from q.to
+  one_stops l d names there h = stop_by l d q.from q.to names there (unnoted_stops (Move q) (carried_by_one c d q q.from q.to) condition h)
 
   ends_are : (a b : ℕ) → q.from ≡ Some a → q.to ≡ Some b → Stops mid c q condition (Some a) (Some b) → Stops mid c q condition q.from q.to
   ends_are a b from to stops =
@@ -321,18 +324,97 @@ module _ (mid : List UnitView) (c : DeviceView) (q : Route) (condition : Conditi
   downward_stops (Ok it) h = absurd cc
   downward_stops (Err reported) h = let is : reported ≡ condition = cc in ap three_err is
 
-  pub two_stop : (l m : ℕ) (more : List ℕ) (ds : TwoDrives) → named_by q.from q.to ≡ l ∷ m ∷ more → slice_get mid l ≡ Some ds.low → slice_get mid m ≡ Some ds.high → carried_two c ds (Some q) ≡ Err condition → Stops mid c q condition q.from q.to
+  pub two_stop : (l m : ℕ) (more : List ℕ) (ds : TwoDrives) → named_by q.from q.to ≡ l ∷ m ∷ more → slice_get mid l ≡ Some ds.low → slice_get mid m ≡ Some ds.high → carried_two c ds (Some (Move q)) ≡ Err condition → Stops mid c q condition q.from q.to
   two_stop l m more ds names low high h =
       let two = named_two q.from q.to l m more names in
-      let stopped : carried_by_two c ds q ≡ Err condition = unnoted_stops q (carried_by_two c ds q) condition h in
+      let stopped : carried_by_two c ds q ≡ Err condition = unnoted_stops (Move q) (carried_by_two c ds q) condition h in
       elim two.1 [
         | inl up ↦ ends_are l m up.from_is up.to_is (between_stops l m ds.low ds.high (apart l m two.0) low high (upward_stops (passed c ds.low ds.high q) (sym (ap (by_way c ds q) up.way) ∙ stopped)))
         | inr down ↦ ends_are m l down.from_is down.to_is (between_stops m l ds.high ds.low (apart_down l m two.0) high low (downward_stops (passed c ds.high ds.low q) (sym (ap (by_way c ds q) down.way) ∙ stopped)))
       ]
 
+-- AN EXCHANGE goes its way, or its steps report why not
+removed_others : (of_drive : Bool) (c : DeviceView) (d : UnitView) (address : ℕ) (v : Volume) (after : DeviceView) (e : UnitView) → IsRemoved of_drive c d address v after e
+    → (place : ℕ) → place ≢ address → volume_at after place ≡ volume_at c place
+removed_others true c d address v after e is place apart = ap (λ (x : DeviceView). volume_at x place) is.marks ∙ noting_still c address None place
+removed_others false c d address v after e is place apart = (takes_one c after address v is.takes).others place apart
+
+placed_others : (of_drive : Bool) (c : DeviceView) (d : UnitView) (address : ℕ) (v : Volume) (after : DeviceView) (e : UnitView) → IsPlaced of_drive c d address v after e
+    → (place : ℕ) → place ≢ address → volume_at after place ≡ volume_at c place
+placed_others true c d address v after e is place apart = ap (λ (x : DeviceView). volume_at x place) is.marks ∙ noting_still c address (Some v.tag) place
+placed_others false c d address v after e is place apart = (puts_one c after address v is.puts).others place apart
+
+-- one drive is named, the same whoever names it
+first_of : List ℕ → ℕ
+first_of [] = 0
+first_of (l ∷ more) = l
+
+same_drive : (x : ExchangeRoute) (l m : ℕ) → named_in (Some (Exchange x)) ≡ l ∷ [] → named_in (Some (Exchange x)) ≡ m ∷ [] → l ≡ m
+unfolding first_of
+same_drive x l m first second = ap first_of (sym first ∙ second)
+
+module _ (mid : List UnitView) (c : DeviceView) (x : ExchangeRoute) (l : ℕ) (d : UnitView) (names : named_in (Some (Exchange x)) ≡ l ∷ []) (there : slice_get mid l ≡ Some d) where
+  abbrev by_steps : UnitView → Result (DeviceView × UnitView) Condition
+  by_steps was = exchanged_by c was x (is_some x.from) (is_some x.between) (is_some x.to)
+
+  crosses : (next : List UnitView) (device : DeviceView) (e : UnitView) → slice_get next l ≡ Some e → carried_one c d (Some (Exchange x)) ≡ Ok (device, e) → Crosses mid next c device x
+  crosses next device e stays h =
+      let w = came (Exchange x) (by_steps d) device e h in
+      let s = is_exchanged c d x (is_some x.from) (is_some x.between) (is_some x.to) w.mid e w.carries in
+      record {
+        drive = l;
+        alone = names;
+        was = d;
+        is = e;
+        there = there;
+        stays = stays;
+        unnoted = w.mid;
+        steps = w.carries;
+        marks = w.notes;
+        others = λ address from between to.
+            ap (λ (y : DeviceView). volume_at y address) w.notes ∙ exchanges_that_are_noted_move_nothing w.mid x.source x.first x.second address
+            ∙ placed_others (is_some x.to) s.with_one s.drive_with x.second s.other w.mid e s.second address to
+            ∙ placed_others (is_some x.between) s.without_both s.drive_both x.first s.one s.with_one s.drive_with s.places address between
+            ∙ removed_others (is_some x.between) s.without_one s.drive_one x.first s.other s.without_both s.drive_both s.first address between
+            ∙ removed_others (is_some x.from) c d x.source s.one s.without_one s.drive_one s.source address from;
+      }
+
+  halts : (condition : Condition) → carried_one c d (Some (Exchange x)) ≡ Err condition → Halts mid c x condition
+  halts condition h = record { drive = l; alone = names; was = d; there = there; steps = unnoted_stops (Exchange x) (by_steps d) condition h }
+
+  -- and then no units after it are those of an exchange
+  does_not_cross : (condition : Condition) → carried_one c d (Some (Exchange x)) ≡ Err condition → (ms : List UnitView) (device : DeviceView) → ¬ Crosses mid ms c device x
+  does_not_cross condition h ms device g =
+      let at : l ≡ g.drive = same_drive x l g.drive names g.alone in
+      let was : g.was ≡ d = same_some g.was d (sym g.there ∙ ap (λ i. slice_get mid i) (sym at) ∙ there) in
+      let goes : by_steps d ≡ Ok (g.unnoted, g.is) = ap by_steps (sym was) ∙ g.steps in
+      let both : ◌≡◌ {A = Result (DeviceView × UnitView) Condition} (Ok (g.unnoted, g.is)) (Err condition) = sym goes ∙ unnoted_stops (Exchange x) (by_steps d) condition h in
+      absurd cc
+
+-- WHAT A COMMAND WITH ONE DRIVE ASKS goes, or is stopped
+abbrev pub StopsBy : (mid : List UnitView) (c : DeviceView) (q : Errand) (condition : Condition) → Type 0
+StopsBy mid c q condition = IsReported mid c q condition × ((ms : List UnitView) (device : DeviceView) → ¬ GoBy mid ms c device q)
+
+pub errand_goes : (mid next : List UnitView) (c device : DeviceView) (q : Errand) (l : ℕ) (d e : UnitView) → named_in (Some q) ≡ l ∷ [] → slice_get mid l ≡ Some d → slice_get next l ≡ Some e
+    → carried_one c d (Some q) ≡ Ok (device, e) → GoBy mid next c device q
+errand_goes mid next c device (Move q) l d e names there stays h = one_goes mid next c device q l d e names there stays h
+errand_goes mid next c device (Exchange x) l d e names there stays h = crosses mid c x l d names there next device e stays h
+
+pub errand_stops : (mid : List UnitView) (c : DeviceView) (q : Errand) (condition : Condition) (l : ℕ) (d : UnitView) → named_in (Some q) ≡ l ∷ [] → slice_get mid l ≡ Some d
+    → carried_one c d (Some q) ≡ Err condition → StopsBy mid c q condition
+errand_stops mid c (Move q) condition l d names there h = one_stops mid c q condition l d names there h
+errand_stops mid c (Exchange x) condition l d names there h = (halts mid c x l d names there condition h, does_not_cross mid c x l d names there condition h)
+
 -- AN END OF THE WAY is each drive that is named
-pub end_one : (q : Route) (l : ℕ) → named_by q.from q.to ≡ l ∷ [] → (q.from ≡ Some l) ⊎ (q.to ≡ Some l)
-end_one q l names = named_one q.from q.to l names
+alone_ends : (from between to : Option ℕ) (l : ℕ) → named_among from between to ≡ l ∷ [] → IsAlone from between to l [] → (from ≡ Some l) ⊎ ((between ≡ Some l) ⊎ (to ≡ Some l))
+alone_ends None None None l names alone = absurd cc
+alone_ends (Some a) between to l names alone = inl (elim alone.from_is [ inl none ↦ absurd cc | inr at ↦ at ])
+alone_ends None (Some b) to l names alone = inr (inl (elim alone.between_is [ inl none ↦ absurd cc | inr at ↦ at ]))
+alone_ends None None (Some t) l names alone = inr (inr (elim alone.to_is [ inl none ↦ absurd cc | inr at ↦ at ]))
+
+pub end_one : (q : Errand) (l : ℕ) → named_in (Some q) ≡ l ∷ [] → HasEnd q l
+end_one (Move q) l names = named_one q.from q.to l names
+end_one (Exchange x) l names = alone_ends x.from x.between x.to l names (named_alone x.from x.between x.to l [] names)
 
 pub ends_two : (q : Route) (l m : ℕ) (more : List ℕ) → named_by q.from q.to ≡ l ∷ m ∷ more → ((q.from ≡ Some l) ⊎ (q.to ≡ Some l)) × ((q.from ≡ Some m) ⊎ (q.to ≡ Some m))
 ends_two q l m more names =

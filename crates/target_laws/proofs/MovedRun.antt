@@ -16,11 +16,11 @@ use Rattle.judgement.specs.declared.reply.Reply.{Reply}
 use Rattle.judgement.specs.Commands.{decoded_command}
 use Rattle.judgement.specs.UnitState.{has_room}
 use Rattle.judgement.specs.History.{is_good}
-use Rattle.logical_unit.specs.Move.{MovesOne, moved_one}
+use Rattle.logical_unit.specs.Move.{MovesOne, moved_one, errand_at}
 use Rattle.unit_laws.specs.MoveRows.{first_tag, second_tag, move, drive_1, slot_1, slot_2, empty_drive}
 use Rattle.unit_laws.specs.Rows.{a, volume}
-use Rattle.logical_unit.specs.Route.{named}
-use Rattle.logical_unit.specs.Step.{Executes, answered}
+use Rattle.logical_unit.specs.Route.{named, records_of}
+use Rattle.logical_unit.specs.Step.{Executes, HasNumbers, answered}
 use Rattle.logical_unit.specs.UnitView.{UnitView, last_number}
 use Rattle.target_core.specs.declared.event.Event.{Event}
 use Rattle.target_core.specs.declared.event.Event.TheVariants as event
@@ -49,16 +49,16 @@ module _ (c d : UnitView) where
   to_changer (event.Loss n lun) asked with_it h names room number = absurd h
   to_changer (event.Reset lun) asked with_it h names room number = absurd h
 
-  with_drive : (e : Event) (cdb bytes : List ℕ) → Sends e (0, cdb, bytes) → named (commands_of c.device) (drives_of c.device) cdb ≡ 1 ∷ [] → has_room c.state a ≡ true → ltb (last_number c + 1) (2 ^ 64) ≡ true → ltb (last_number d + 1) (2 ^ 64) ≡ true
+  with_drive : (e : Event) (cdb bytes : List ℕ) → Sends e (0, cdb, bytes) → named (commands_of c.device) (drives_of c.device) cdb ≡ 1 ∷ [] → has_room c.state a ≡ true → ltb (last_number c + 1) (2 ^ 64) ≡ true → ltb (last_number d + 1) (2 ^ 64) ≡ true → records_of (errand_at c cdb) ≡ 1
       → let x = moved_one c d a cdb bytes in Steps (c ∷ d ∷ []) e (x.0.0 ∷ x.1 ∷ [], x.0.1)
-  with_drive (event.Command n lun cdb bytes) asked with_it h names room number other =
+  with_drive (event.Command n lun cdb bytes) asked with_it h names room number other one =
       let us = c ∷ d ∷ [] in
       let x = moved_one c d a asked with_it in
       let at : AtDrive us 1 (MovesOne c d a asked with_it) (x.0.0 ∷ x.1 ∷ [], x.0.1) =
-      record { changer = x.0.0; other = x.1; step = inr (room, ltb-true (last_number c + 1) (2 ^ 64) number, λ carried. ltb-true (last_number d + 1) (2 ^ 64) other, refl); units = refl } in
+      record { changer = x.0.0; other = x.1; step = inr (room, ltb-true (last_number c + 1) (2 ^ 64) number, λ carried. subst (HasNumbers d) (sym one) (ltb-true (last_number d + 1) (2 ^ 64) other), refl); units = refl } in
       rw (h.0, h.1, h.2, h.3) (subst (λ (l : List ℕ). CommandsNaming us c l a asked with_it (x.0.0 ∷ x.1 ∷ [], x.0.1)) (sym names) at)
-  with_drive (event.Loss n lun) asked with_it h names room number other = absurd h
-  with_drive (event.Reset lun) asked with_it h names room number other = absurd h
+  with_drive (event.Loss n lun) asked with_it h names room number other one = absurd h
+  with_drive (event.Reset lun) asked with_it h names room number other one = absurd h
 
 -- what it carried, and whether it wrote
 abbrev carried_as : (lun : ℕ) → (cdb bytes : List ℕ) → Reply → Option Way
@@ -129,7 +129,7 @@ first_run : (e f g : Event) → AllSend (e ∷ f ∷ g ∷ []) ((0, move slot_1 
 unfolding commands.command_of profile_of keys_after
 first_run e f g h = (
   loaded.0.0 ∷ loaded.1 ∷ [],
-  with_drive stock (empty_drive 1) e (move slot_1 drive_1) [] h.0 refl refl refl refl,
+  with_drive stock (empty_drive 1) e (move slot_1 drive_1) [] h.0 refl refl refl refl refl,
   (
     loaded.0.0 ∷ told.0 ∷ [],
     to_drive loaded.0.0 loaded.1 f test_unit_ready [] h.1.0 refl refl,
@@ -142,7 +142,7 @@ unfolding commands.command_of profile_of keys_after
 last_run e f h = (
   refused.0 ∷ wrote.0 ∷ [],
   to_changer loaded.0.0 wrote.0 e (move slot_1 slot_2) [] h.0 refl refl refl,
-  (unloaded.0.0 ∷ unloaded.1 ∷ [], with_drive refused.0 wrote.0 f (move drive_1 slot_2) [] h.1.0 refl refl refl refl, refl),
+  (unloaded.0.0 ∷ unloaded.1 ∷ [], with_drive refused.0 wrote.0 f (move drive_1 slot_2) [] h.1.0 refl refl refl refl refl, refl),
 )
 
 pub moved_run : (es : List Event) → AllSend es sent → IsMovedRun es
@@ -182,7 +182,7 @@ failed_run (e ∷ []) h = record {
   no_target = refl;
   reply = failed.0.1;
   last = failed.0.0 ∷ failed.1 ∷ [];
-  run = (failed.0.0 ∷ failed.1 ∷ [], with_drive false_stock (empty_drive 1) e (move drive_1 slot_2) [] h.0 refl refl refl refl, refl);
+  run = (failed.0.0 ∷ failed.1 ∷ [], with_drive false_stock (empty_drive 1) e (move drive_1 slot_2) [] h.0 refl refl refl refl refl, refl);
   fails = refl;
 }
 failed_run [] h = absurd h

@@ -6,6 +6,8 @@ use Rattle.scsi_cdb.specs.declared.profile.CommandSet.{CommandSet}
 use Rattle.scsi_cdb.specs.declared.profile.Profile.{Profile}
 use Rattle.scsi_cdb.specs.declared.kind.Kind.TheVariants as kind
 use Rattle.scsi_cdb.specs.Kinds.{commands}
+use Rattle.scsi_cdb.specs.declared.host_request.HostRequest.{HostRequest}
+use Rattle.scsi_cdb.specs.declared.host_request.HostRequest.TheVariants as host
 use Rattle.scsi_cdb.specs.declared.request.Request.{Request}
 use Rattle.scsi_cdb.specs.declared.request.Request.TheVariants as request
 use Rattle.scsi_nexus.specs.declared.nexus.Nexus.{Nexus}
@@ -18,27 +20,28 @@ use Rattle.arrayvec.specs.ArrayVec.{ArrayVec}
 use Rattle.unit_attention.specs.Queues.{has_slot}
 use Rattle.tape_medium.specs.declared.volume.Volume.{Volume}
 use Rattle.device_server.specs.View.{DeviceView, Drive, Changer, kind_of, profile_of, commands_of, drives_of, performed, reset_of}
-use Rattle.device_server.specs.Volumes.{volume_at, SameVolume, SameAt, Carries, is_write}
-use Rattle.device_server.proofs.MoveLemmas.{changers_stay, moves_carry_one}
+use Rattle.device_server.specs.Volumes.{volume_at, SameVolume, SameAt, Carries, Exchanges, is_write}
+use Rattle.device_server.proofs.MoveLemmas.{changers_stay, moves_carry_one, exchanges_carry_two}
 use Rattle.device_server.proofs.TapeLemmas.{drives_keep_their_volume, drives_keep_their_tape, resets_keep_volumes}
 use Rattle.judgement.specs.declared.reply.Reply.{Reply}
 use Rattle.judgement.specs.Commands.{decoded_command}
 use Rattle.judgement.specs.declared.command.Command.{Command}
 use Rattle.judgement.specs.declared.command.Command.TheVariants.{Device}
 use Rattle.judgement.specs.History.{is_good}
-use Rattle.logical_unit.specs.Move.{TwoDrives, route_at, carried_one, carried_two, MovesOne, MovesTwo}
+use Rattle.logical_unit.specs.Move.{TwoDrives, errand_at, carried_one, carried_two, MovesOne, MovesTwo}
 use Rattle.logical_unit.specs.Route.{drive_at, named}
 use Rattle.logical_unit.specs.Step.{Executes, LosesAs, IsLost, IsReset}
 use Rattle.logical_unit.specs.UnitView.{UnitView}
 use Rattle.logical_unit.proofs.History.{executes_stays}
 use Rattle.logical_unit.proofs.Moved.{Became, carried_to, one_became, two_became}
-use Rattle.logical_unit.proofs.NamedDrives.{has_route}
-use Rattle.logical_unit.proofs.SameUnits.{decodes_move}
+use Rattle.logical_unit.specs.declared.route.Errand.{Errand}
+use Rattle.logical_unit.specs.declared.route.Errand.TheVariants.{Move, Exchange}
+use Rattle.logical_unit.proofs.NamedDrives.{Asks, has_errand, errand_asked}
 use Rattle.target_core.specs.declared.event.Event.{Event}
 use Rattle.target_core.specs.declared.event.Event.TheVariants as event
 use Rattle.target_core.specs.Faults.{fault_of, profile_in}
 use Rattle.target_core.specs.Run.{LosesAt, ResetsAt, Steps}
-use Rattle.target_laws.specs.Volumes.{volume_in, Way, way_of, carried_by, lun_of, is_to, writes, is_written, StaysSame, IsCarried, KeepsVolumes, VolumesStay}
+use Rattle.target_laws.specs.Volumes.{volume_in, Way, Carried, Exchanged, way_of, carried_by, lun_of, is_to, writes, is_written, StaysSame, IsCarriedBy, KeepsVolumes, VolumesStay}
 use Rattle.target_laws.proofs.CommandWays.{Goes, goes}
 use Rattle.target_laws.proofs.Devices.{Does, executed}
 use Rattle.target_core.proofs.Ordered.{IsOrdered, ordered, has_drives, drive_of}
@@ -70,12 +73,22 @@ drive_does before after (Ok c) bytes status sense k does =
 -- THE CHANGER'S OWN leaves it as it is, but a move that is GOOD
 abbrev pub CarriesBy : DeviceView → DeviceView → Option Way → Type 0
 CarriesBy before after None = after ≡ before
-CarriesBy before after (Some w) = Carries before after w.source w.destination
+CarriesBy before after (Some (Carried source destination)) = Carries before after source destination
+CarriesBy before after (Some (Exchanged source first second)) = Exchanges before after source first second
+
+host_does : (before after : DeviceView) (command : HostRequest) (bytes : List ℕ) (sense : Option Sense) → kind_of before ≡ kind.Changer → Does before (Ok (Device (request.Host command))) bytes after Good sense
+    → CarriesBy before after (way_of (Ok (Device (request.Host command))))
+host_does before after (host.ExchangeMedium transport source first second inv1 inv2) bytes sense k (inl unreached) = absurd (unreached.refused refl)
+host_does before after (host.ExchangeMedium transport source first second inv1 inv2) bytes sense k (inr step) =
+    subst (λ (x : DeviceView). Exchanges before x source first second) (sym step.device) (exchanges_carry_two before transport source first second inv1 inv2 bytes (sym step.ends))
+host_does before after command bytes sense k (inl unreached) = unreached.device
+host_does before after command bytes sense k (inr step) = step.device ∙ changers_stay before (request.Host command) bytes k (inl refl)
 
 good_does : (before after : DeviceView) (c : Result Command Condition) (bytes : List ℕ) (sense : Option Sense) → kind_of before ≡ kind.Changer → Does before c bytes after Good sense → CarriesBy before after (way_of c)
 good_does before after (Ok (Device (request.MoveMedium transport source destination invert))) bytes sense k (inl unreached) = absurd (unreached.refused refl)
 good_does before after (Ok (Device (request.MoveMedium transport source destination invert))) bytes sense k (inr step) =
     subst (λ (x : DeviceView). Carries before x source destination) (sym step.device) (moves_carry_one before transport source destination invert bytes (sym step.ends))
+good_does before after (Ok (Device (request.Host command))) bytes sense k does = host_does before after command bytes sense k does
 good_does before after (Ok (Device q)) bytes sense k (inl unreached) = unreached.device
 good_does before after (Ok (Device q)) bytes sense k (inr step) = step.device ∙ changers_stay before q bytes k (inl refl)
 good_does before after (Err condition) bytes sense k does = does.device
@@ -99,22 +112,48 @@ module _ (c v : UnitView) (ds : List UnitView) (o : IsOrdered c ds) where
   own : (device : DeviceView) (address : ℕ) (x : Option ℕ) → drives_of device ≡ drives_of c.device → drive_at (drives_of device) address ≡ x → drive_at (length ds) address ≡ x
   own device address x size at = sym (ap (λ n. drive_at n address) (size ∙ has_drives c ds o)) ∙ at
 
-  own_carries : (w : Way) → kind_of v.device ≡ kind.Changer → drives_of v.device ≡ drives_of c.device → Carries c.device v.device w.source w.destination → IsCarried (c ∷ ds) (v ∷ ds) w
-  own_carries w k size h =
-      let from : drive_at (length ds) w.source ≡ None = own c.device w.source None refl (own_place c.device w.source h.volume o.kind h.full) in
-      let to : drive_at (length ds) w.destination ≡ None = own v.device w.destination None size (own_place v.device w.destination h.volume k h.there) in
+  own_carries : (source destination : ℕ) → kind_of v.device ≡ kind.Changer → drives_of v.device ≡ drives_of c.device → Carries c.device v.device source destination
+      → IsCarriedBy (c ∷ ds) (v ∷ ds) (Carried source destination)
+  own_carries source destination k size h =
+      let from : drive_at (length ds) source ≡ None = own c.device source None refl (own_place c.device source h.volume o.kind h.full) in
+      let to : drive_at (length ds) destination ≡ None = own v.device destination None size (own_place v.device destination h.volume k h.there) in
       record {
         volume = h.volume;
-        full = at_own c ds w.source from ∙ h.full;
-        empty = at_own c ds w.destination to ∙ h.empty;
-        left = at_own v ds w.source from ∙ h.left;
-        there = subst (λ (x : Option Volume). SameAt SameVolume (Some h.volume) x) (sym (at_own v ds w.destination to ∙ h.there)) (stays true false (Some h.volume));
+        full = at_own c ds source from ∙ h.full;
+        empty = at_own c ds destination to ∙ h.empty;
+        left = at_own v ds source from ∙ h.left;
+        there = subst (λ (x : Option Volume). SameAt SameVolume (Some h.volume) x) (sym (at_own v ds destination to ∙ h.there)) (stays true false (Some h.volume));
         others = λ address not_source not_destination. by_element (λ before after. after ≡ before) c v ds ds address refl (λ j at. refl) (λ none. h.others address not_source not_destination);
+      }
+
+  own_exchanges : (source first second : ℕ) → kind_of v.device ≡ kind.Changer → drives_of v.device ≡ drives_of c.device → Exchanges c.device v.device source first second
+      → IsCarriedBy (c ∷ ds) (v ∷ ds) (Exchanged source first second)
+  own_exchanges source first second k size h =
+      let from : drive_at (length ds) source ≡ None = own c.device source None refl (own_place c.device source h.one o.kind h.full) in
+      let between : drive_at (length ds) first ≡ None = own c.device first None refl (own_place c.device first h.other o.kind h.first_full) in
+      let to : drive_at (length ds) second ≡ None = own v.device second None size (own_place v.device second h.other k h.there) in
+      record {
+        one = h.one;
+        other = h.other;
+        apart = h.apart;
+        full = at_own c ds source from ∙ h.full;
+        first_full = at_own c ds first between ∙ h.first_full;
+        empty = λ apart. at_own c ds second to ∙ h.empty apart;
+        left = λ apart. at_own v ds source from ∙ h.left apart;
+        first_there = subst (λ (x : Option Volume). SameAt SameVolume (Some h.one) x) (sym (at_own v ds first between ∙ h.first_there)) (stays true false (Some h.one));
+        there = subst (λ (x : Option Volume). SameAt SameVolume (Some h.other) x) (sym (at_own v ds second to ∙ h.there)) (stays true false (Some h.other));
+        others = λ address not_source not_first not_second. by_element (λ before after. after ≡ before) c v ds ds address refl (λ j at. refl) (λ none. h.others address not_source not_first not_second);
       }
 
   by_carries : (e : Event) (r : Reply) (w : Option Way) → kind_of v.device ≡ kind.Changer → drives_of v.device ≡ drives_of c.device → CarriesBy c.device v.device w → KeepsVolumes (c ∷ ds) (v ∷ ds) e r w
   by_carries e r None k size is = λ address. equal_stays (is_to e address) (is_written (profile_of c.device) e r) (volume_in (c ∷ ds) address) (volume_in (v ∷ ds) address) (changer_same c v ds address is)
-  by_carries e r (Some w) k size h = own_carries w k size h
+  by_carries e r (Some (Carried source destination)) k size h = own_carries source destination k size h
+  by_carries e r (Some (Exchanged source first second)) k size h = own_exchanges source first second k size h
+
+-- what is asked of volumes is the way that they go
+way_asked : (drives : ℕ) (q : Request) (e : Errand) → Asks drives q e → way_of (Ok (Device q)) ≡ Some (way e)
+way_asked drives q (Move r) a = ap (λ (x : Request). way_of (Ok (Device x))) a.is
+way_asked drives q (Exchange x) a = ap (λ (y : Request). way_of (Ok (Device y))) a.is
 
 -- A COMMAND
 module _ (c : UnitView) (ds : List UnitView) (o : IsOrdered c ds) (n : Nexus) (cdb : ArrayVec ℕ) (bytes : Vec ℕ) (r : Reply) where
@@ -142,12 +181,13 @@ module _ (c : UnitView) (ds : List UnitView) (o : IsOrdered c ds) (n : Nexus) (c
       (drive_does d.device x.device (decoded_command (commands_of d.device) cdb.items bytes.items) bytes.items r.status r.sense drive (executed d x n cdb.items bytes.items r step)))
 
   -- at the changer with drives: alone, with nothing carried, or with a volume carried
-  carried_way : (l : ℕ) (more : List ℕ) (names : named (commands_of c.device) (drives_of c.device) cdb.items ≡ l ∷ more) → r.status ≡ Good → carried_by (profile_of c.device) (asked 0) r ≡ Some (way (has_route c.device cdb.items l more names).route)
+  carried_way : (l : ℕ) (more : List ℕ) (names : named (commands_of c.device) (drives_of c.device) cdb.items ≡ l ∷ more) → r.status ≡ Good → carried_by (profile_of c.device) (asked 0) r ≡ Some (way (has_errand c.device cdb.items l more names).errand)
   carried_way l more names good =
-      let q = has_route c.device cdb.items l more names in
+      let q = has_errand c.device cdb.items l more names in
       ap (λ (s : Status). cond (is_good s) (way_of (decoded_command (commands (profile_of c.device) kind.Changer) cdb.items bytes.items)) None) good
       ∙ ap (λ (x : Kind). way_of (decoded_command (commands (profile_of c.device) x) cdb.items bytes.items)) (sym q.changer)
-      ∙ ap way_of (decodes_move c.device cdb.items bytes.items l more q)
+      ∙ ap way_of (errand_asked c.device cdb.items bytes.items l more q)
+      ∙ way_asked (drives_of c.device) q.decodes.request q.errand q.asks
 
   halted_keeps : (v : UnitView) → v.device ≡ c.device → r.status ≡ CheckCondition → KeepsVolumes (c ∷ ds) (v ∷ ds) (asked 0) r (carried_by (profile_of c.device) (asked 0) r)
   halted_keeps v same bad =
@@ -155,7 +195,7 @@ module _ (c : UnitView) (ds : List UnitView) (o : IsOrdered c ds) (n : Nexus) (c
       (λ address. equal_stays (is_to (asked 0) address) (is_written (profile_of c.device) (asked 0) r) (volume_in (c ∷ ds) address) (volume_in (v ∷ ds) address) (changer_same c v ds address same))
 
   move_keeps : {A : Type 0} (v : UnitView) (drives after : A) (carried : Result (DeviceView × A) Condition) (set : A → List UnitView) (l : ℕ) (more : List ℕ) (names : named (commands_of c.device) (drives_of c.device) cdb.items ≡ l ∷ more) → set drives ≡ ds
-      → (carried ≡ Ok (v.device, after) → IsCarried (c ∷ ds) (v ∷ set after) (way (has_route c.device cdb.items l more names).route))
+      → (carried ≡ Ok (v.device, after) → IsCarriedBy (c ∷ ds) (v ∷ set after) (way (has_errand c.device cdb.items l more names).errand))
       → Became c v n cdb.items bytes.items r drives after carried → KeepsVolumes (c ∷ ds) (v ∷ set after) (asked 0) r (carried_by (profile_of c.device) (asked 0) r)
   move_keeps v drives after carried set l more names same carries (inl alone) =
       subst (λ (xs : List UnitView). KeepsVolumes (c ∷ ds) (v ∷ xs) (asked 0) r (carried_by (profile_of c.device) (asked 0) r)) (sym (ap set alone.1 ∙ same)) (alone_keeps v alone.0)
@@ -170,13 +210,13 @@ module _ (c : UnitView) (ds : List UnitView) (o : IsOrdered c ds) (n : Nexus) (c
   one_keeps : (k : ℕ) (d v e : UnitView) → slice_get ds k ≡ Some d → named (commands_of c.device) (drives_of c.device) cdb.items ≡ suc k ∷ [] → MovesOne c d n cdb.items bytes.items ((v, r), e)
       → KeepsVolumes (c ∷ ds) (v ∷ slice_set ds k e) (asked 0) r (carried_by (profile_of c.device) (asked 0) r)
   one_keeps k d v e there names step =
-      move_keeps v d e (carried_one c.device d (route_at c cdb.items)) (λ (x : UnitView). slice_set ds k x) (suc k) [] names (set-same ds k d there) (λ h. one_carries c v ds o cdb.items k d e names there h)
+      move_keeps v d e (carried_one c.device d (errand_at c cdb.items)) (λ (x : UnitView). slice_set ds k x) (suc k) [] names (set-same ds k d there) (λ h. one_carries c v ds o cdb.items k d e names there h)
       (one_became c d v e n cdb.items bytes.items r (suc k) [] names step)
 
   two_keep : (i j : ℕ) (more : List ℕ) (ds' es : TwoDrives) (v : UnitView) → slice_get ds i ≡ Some ds'.low → slice_get ds j ≡ Some ds'.high → named (commands_of c.device) (drives_of c.device) cdb.items ≡ suc i ∷ suc j ∷ more
       → MovesTwo c ds' n cdb.items bytes.items ((v, r), es) → KeepsVolumes (c ∷ ds) (v ∷ slice_set (slice_set ds i es.low) j es.high) (asked 0) r (carried_by (profile_of c.device) (asked 0) r)
   two_keep i j more ds' es v low high names step =
-      move_keeps v ds' es (carried_two c.device ds' (route_at c cdb.items)) (λ (x : TwoDrives). slice_set (slice_set ds i x.low) j x.high) (suc i) (suc j ∷ more) names
+      move_keeps v ds' es (carried_two c.device ds' (errand_at c cdb.items)) (λ (x : TwoDrives). slice_set (slice_set ds i x.low) j x.high) (suc i) (suc j ∷ more) names
       (ap (λ (xs : List UnitView). slice_set xs j ds'.high) (set-same ds i ds'.low low) ∙ set-same ds j ds'.high high) (λ h. two_carry c v ds o cdb.items i j more ds' es names low high h)
       (two_became c v ds' es n cdb.items bytes.items r (suc i) (suc j ∷ more) names step)
 

@@ -1,6 +1,6 @@
 -- What every run says of each of its commands: it is answered BUSY, with nothing changed, or it is decided by what the accepted acts before it
 -- left at its unit, by the permission table and the rules on keys alone.
-use Rattle.std.specs.Prelude.{◌≡◌, ◌≢◌, ◌↔◌, ◌⊎◌, ℕ, ◌+◌, ◌==◌, true, false, List, [], ◌∷◌, ◌++◌, length, take, slice_get, Option, Some, None, IsSome, Ok, if◌then◌else◌}
+use Rattle.std.specs.Prelude.{◌≡◌, ◌≢◌, ◌↔◌, ◌⊎◌, ℕ, ◌+◌, ◌==◌, true, false, List, [], ◌∷◌, ◌++◌, length, take, slice_get, Option, Some, None, IsSome, is_some, Ok, Err, if◌then◌else◌}
 use Rattle.std.specs.Global.{Vec}
 use Rattle.arrayvec.specs.ArrayVec.{ArrayVec}
 use Rattle.scsi_cdb.specs.declared.action.InServiceAction.{InServiceAction}
@@ -14,7 +14,7 @@ use Rattle.pr_core.specs.State.{State, cell}
 use Rattle.pr_core.specs.declared.verdict.Verdict.TheVariants.{Allowed}
 use Rattle.tape_medium.specs.declared.volume.Volume.{Volume}
 use Rattle.tape_medium.specs.declared.volume.VolumeTag.{VolumeTag}
-use Rattle.device_server.specs.View.{DeviceView, kind_of, commands_of, drives_of, held_in, taken, put, journeyed}
+use Rattle.device_server.specs.View.{DeviceView, kind_of, commands_of, drives_of, held_in, taken, put, journeyed, exchange_journeyed}
 use Rattle.device_server.specs.Volumes.{volume_at}
 use Rattle.judgement.specs.declared.command.Command.{Command}
 use Rattle.judgement.specs.declared.command.Command.TheVariants.{ReserveIn}
@@ -30,8 +30,11 @@ use Rattle.judgement.specs.declared.decision.Decision.{Decision}
 use Rattle.judgement.specs.UnitState.{has_room, after_contact, is_prevented}
 use Rattle.judgement.specs.Replies.{busy, good, check, conflict, numbered}
 use Rattle.logical_unit.specs.Medium.{taken_out, put_in}
-use Rattle.logical_unit.specs.Move.{is_left, names_held, noting, route_at}
-use Rattle.logical_unit.specs.Route.{named}
+use Rattle.logical_unit.specs.Move.{is_left, names_held, noting, exchanged_by, errand_at}
+use Rattle.logical_unit.specs.Route.{named_in, named}
+use Rattle.logical_unit.specs.declared.route.Errand.{Errand}
+use Rattle.logical_unit.specs.declared.route.Errand.TheVariants.{Move, Exchange}
+use Rattle.logical_unit.specs.declared.route.ExchangeRoute.{ExchangeRoute}
 use Rattle.logical_unit.specs.declared.route.Route.{Route}
 use Rattle.logical_unit.specs.Step.{HasNumber, contacted_present, recorded, record_of}
 use Rattle.logical_unit.specs.UnitView.{UnitView, last_number}
@@ -116,6 +119,31 @@ pub record Goes (mid next : List UnitView) (before after : DeviceView) (source :
 abbrev pub GoesBy : (mid next : List UnitView) → (before after : DeviceView) → Route → Type 0
 GoesBy mid next before after way = Goes mid next before after way.source way.from way.destination way.to
 
+-- TWO VOLUMES CHANGE THEIR ELEMENTS, with one drive among these: both are removed, then both are placed, each by what the step before it left, and
+-- the changer notes their ways
+pub record Crosses (mid next : List UnitView) (before after : DeviceView) (x : ExchangeRoute) : Type 0 where
+  pub drive : ℕ
+  pub alone : named_in (Some (Exchange x)) ≡ drive ∷ []
+  pub was : UnitView
+  pub is : UnitView
+  pub there : slice_get mid drive ≡ Some was
+  pub stays : slice_get next drive ≡ Some is
+  pub unnoted : DeviceView
+  pub steps : exchanged_by before was x (is_some x.from) (is_some x.between) (is_some x.to) ≡ Ok (unnoted, is)
+  pub marks : after ≡ exchange_journeyed unnoted x.source x.first x.second
+  -- and all other elements of the changer hold what they held
+  pub others : (address : ℕ) → address ≢ x.source → address ≢ x.first → address ≢ x.second → volume_at after address ≡ volume_at before address
+
+-- as a command asks for it
+abbrev pub GoBy : (mid next : List UnitView) → (before after : DeviceView) → Errand → Type 0
+GoBy mid next before after (Move way) = GoesBy mid next before after way
+GoBy mid next before after (Exchange x) = Crosses mid next before after x
+
+-- a drive that gives a volume by it, or takes one
+abbrev pub HasEnd : Errand → (drive : ℕ) → Type 0
+HasEnd (Move way) drive = (way.from ≡ Some drive) ⊎ (way.to ≡ Some drive)
+HasEnd (Exchange x) drive = (x.from ≡ Some drive) ⊎ ((x.between ≡ Some drive) ⊎ (x.to ≡ Some drive))
+
 -- what is reported where it can't go: 53h/02h of the drive that would give it, where somebody prevents removal there; else 44h/00h
 abbrev pub stop_at : Option UnitView → Condition
 stop_at None = InternalTargetFailure
@@ -129,9 +157,21 @@ stop_of us None to = InternalTargetFailure
 stop_of us (Some drive) None = stop_at (slice_get us drive)
 stop_of us (Some drive) (Some other) = if drive == other then InternalTargetFailure else stop_at (slice_get us drive)
 
+-- of an exchange what its steps report: 53h/02h of a drive that would give a volume, where somebody prevents removal there; else 44h/00h
+pub record Halts (mid : List UnitView) (before : DeviceView) (x : ExchangeRoute) (condition : Condition) : Type 0 where
+  pub drive : ℕ
+  pub alone : named_in (Some (Exchange x)) ≡ drive ∷ []
+  pub was : UnitView
+  pub there : slice_get mid drive ≡ Some was
+  pub steps : exchanged_by before was x (is_some x.from) (is_some x.between) (is_some x.to) ≡ Err condition
+
+abbrev pub IsReported : (mid : List UnitView) → (before : DeviceView) → Errand → Condition → Type 0
+IsReported mid before (Move way) condition = condition ≡ stop_of mid way.from way.to
+IsReported mid before (Exchange x) condition = Halts mid before x condition
+
 -- AN ALLOWED COMMAND
 
--- a MOVE MEDIUM at the changer that names drives, which are all there
+-- a MOVE MEDIUM or EXCHANGE MEDIUM at the changer that names drives, which are all there
 abbrev pub AreThere : List UnitView → (luns : List ℕ) → Type 0
 AreThere us [] = Unit {0}
 AreThere us (lun ∷ luns) = IsSome (slice_get us lun) × AreThere us luns
@@ -151,23 +191,25 @@ abbrev pub EndsWith : (now left : UnitView) → Nexus → (bytes : List ℕ) →
 EndsWith now left n bytes command r device answer =
     (left, r) ≡ recorded now n (act_of_command command) (record { device = device; state = now.state }, (behind now n command bytes).1, answer)
 
--- the volume goes: GOOD
-pub record IsCarriedOut (mid next : List UnitView) (now left : UnitView) (n : Nexus) (bytes : List ℕ) (command : Command) (r : Reply) (way : Route) : Type 0 where
+-- what is asked goes: GOOD
+pub record IsCarriedOut (mid next : List UnitView) (now left : UnitView) (n : Nexus) (bytes : List ℕ) (command : Command) (r : Reply) (way : Errand) : Type 0 where
   pub device : DeviceView
-  pub goes : GoesBy mid next now.device device way
+  pub goes : GoBy mid next now.device device way
   pub ends : EndsWith now left n bytes command r device (good [])
 
 -- no volume can go: CHECK CONDITION, and the changer's device is as it was
-pub record IsStopped (mid : List UnitView) (now left : UnitView) (n : Nexus) (bytes : List ℕ) (command : Command) (r : Reply) (way : Route) : Type 0 where
-  pub none : (ms : List UnitView) (device : DeviceView) → ¬ GoesBy mid ms now.device device way
-  pub ends : EndsWith now left n bytes command r now.device (check (stop_of mid way.from way.to))
+pub record IsStopped (mid : List UnitView) (now left : UnitView) (n : Nexus) (bytes : List ℕ) (command : Command) (r : Reply) (way : Errand) : Type 0 where
+  pub none : (ms : List UnitView) (device : DeviceView) → ¬ GoBy mid ms now.device device way
+  pub condition : Condition
+  pub reported : IsReported mid now.device way condition
+  pub ends : EndsWith now left n bytes command r now.device (check condition)
 
 -- the changer's map and marks refuse nothing of such a move, and the drives decide
 pub record IsByDrives (mid next : List UnitView) (lun : ℕ) (now left : UnitView) (n : Nexus) (cdb bytes : List ℕ) (command : Command) (r : Reply) : Type 0 where
   pub with_drives : IsWithDrives mid lun now cdb
   pub left_to_drives : is_left (behind now n command bytes).2.sense ≡ true
-  pub way : Route
-  pub asked : route_at now cdb ≡ Some way
+  pub way : Errand
+  pub asked : errand_at now cdb ≡ Some way
   pub ends : IsCarriedOut mid next now left n bytes command r way ⊎ IsStopped mid now left n bytes command r way
 
 pub record IsLetIn (h : State) (mid next : List UnitView) (lun : ℕ) (now left : UnitView) (n : Nexus) (cdb bytes : List ℕ) (command : Command) (r : Reply) : Type 0 where
@@ -206,14 +248,14 @@ pub record IsAnswered (h : State) (mid next : List UnitView) (lun : ℕ) (now le
   -- and RESERVATION CONFLICT comes from nowhere else
   pub only_there : r.status ≡ ReservationConflict → IsBarred h now n cdb bytes
 
--- a drive that the volume of a GOOD move at the changer came out of, or went into
+-- a drive that a volume of a GOOD move or exchange at the changer came out of, or went into
 pub record IsMovedAt (mid next : List UnitView) (lun : ℕ) (now left : UnitView) (cdb : List ℕ) (r : Reply) (k : ℕ) : Type 0 where
   pub changer : lun ≡ 0
   pub good : r.status ≡ Good
-  pub way : Route
-  pub asked : route_at now cdb ≡ Some way
-  pub end : (way.from ≡ Some k) ⊎ (way.to ≡ Some k)
-  pub goes : GoesBy mid next now.device left.device way
+  pub way : Errand
+  pub asked : errand_at now cdb ≡ Some way
+  pub end : HasEnd way k
+  pub goes : GoBy mid next now.device left.device way
 
 -- a command to the unit at lun, from the units mid to the units next, where the unit's accepted history left h
 pub record IsServed (h : State) (mid next : List UnitView) (lun : ℕ) (n : Nexus) (cdb bytes : List ℕ) (r : Reply) : Type 0 where

@@ -7,3 +7,4 @@ pub mod Volumes
 pub mod LibraryRows
 pub mod CarriedRows
 pub mod Cartridges
+pub mod ExchangeRows

@@ -20,7 +20,7 @@ use Rattle.target_laws.specs.Cartridges.{Cartridge, cartridges}
 use Rattle.target_core.specs.Faults.{fault_of}
 use Rattle.target_laws.specs.Rows.{good_with}
 use Rattle.target_core.specs.Run.{Runs}
-use Rattle.target_laws.specs.Volumes.{volume_in, Way, carried_by, is_to, is_written, StaysSame, IsCarried, KeepsVolumes}
+use Rattle.target_laws.specs.Volumes.{volume_in, Way, Carried, carried_by, is_to, is_written, StaysSame, IsCarried, KeepsVolumes}
 
 -- what A sends to a logical unit: the bytes, and the data
 abbrev pub Sending : Type 0
@@ -111,7 +111,7 @@ pub record IsMovedRun (es : List Event) : Type 0 where
   pub target : fault_of stocked ≡ None
   -- A is told that the medium may have changed, and that 0400h is empty
   pub statuses : map (λ (r : Reply). r.status) replies ≡ Good ∷ CheckCondition ∷ Good ∷ CheckCondition ∷ Good ∷ []
-  pub ways : ways es replies ≡ Some (record { source = 0x400; destination = 0x100 }) ∷ None ∷ None ∷ None ∷ Some (record { source = 0x100; destination = 0x401 }) ∷ []
+  pub ways : ways es replies ≡ Some (Carried 0x400 0x100) ∷ None ∷ None ∷ None ∷ Some (Carried 0x100 0x401) ∷ []
   pub writings : writings es replies ≡ false ∷ false ∷ true ∷ false ∷ false ∷ []
   -- the volume, empty at first, with the block, and at its beginning again
   pub at_first : places stocked ≡ None ∷ Some (volume first_tag) ∷ None ∷ []
@@ -137,9 +137,9 @@ pub record NotKept : Type 0 where
   pub made : ¬ KeepsVolumes stocked (units (None ∷ []) (Some (volume first_tag)) (Some (volume first_tag)) (empty_drive 1)) (event.Reset 1) (good_with 1) None
   pub another : ¬ KeepsVolumes stocked (units (None ∷ []) (Some (volume second_tag)) None (empty_drive 1)) (event.Reset 1) (good_with 1) None
   pub written : ¬ SameAt (StaysSame true false) (Some (volume first_tag)) (Some (written_at 0))
-  pub twice : ¬ IsCarried stocked (units (Some first_tag ∷ []) (Some (volume first_tag)) None (full_drive 1 first_tag)) (record { source = 0x400; destination = 0x100 })
-  pub lost : ¬ IsCarried stocked (units (None ∷ []) None None (empty_drive 1)) (record { source = 0x400; destination = 0x100 })
-  pub exchanged : ¬ IsCarried stocked (units (Some second_tag ∷ []) None None (full_drive 1 second_tag)) (record { source = 0x400; destination = 0x100 })
+  pub twice : ¬ IsCarried stocked (units (Some first_tag ∷ []) (Some (volume first_tag)) None (full_drive 1 first_tag)) 0x400 0x100
+  pub lost : ¬ IsCarried stocked (units (None ∷ []) None None (empty_drive 1)) 0x400 0x100
+  pub exchanged : ¬ IsCarried stocked (units (Some second_tag ∷ []) None None (full_drive 1 second_tag)) 0x400 0x100
 
 -- nor are its cartridges the same ones
 pub record OtherCartridges : Type 0 where

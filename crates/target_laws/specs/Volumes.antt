@@ -3,7 +3,8 @@
 use Rattle.std.specs.Prelude.{◌≡◌, ◌≢◌, ◌==◌, ◌&&◌, ◌+◌, ℕ, zero, Bool, true, false, List, [], ◌∷◌, ◌++◌, length, slice_get, Option, Some, None, Result, Ok, if◌then◌else◌}
 use Rattle.scsi_cdb.specs.declared.kind.Kind.TheVariants as kind
 use Rattle.scsi_cdb.specs.declared.profile.Profile.{Profile}
-use Rattle.scsi_cdb.specs.declared.request.Request.TheVariants.{MoveMedium}
+use Rattle.scsi_cdb.specs.declared.host_request.HostRequest.TheVariants.{ExchangeMedium}
+use Rattle.scsi_cdb.specs.declared.request.Request.TheVariants.{MoveMedium, Host}
 use Rattle.scsi_cdb.specs.Kinds.{commands}
 use Rattle.scsi_sense.specs.declared.condition.Condition.{Condition}
 use Rattle.tape_medium.specs.declared.volume.Volume.{Volume}
@@ -34,16 +35,18 @@ abbrev pub volume_in : List UnitView → (address : ℕ) → Option Volume
 volume_in [] address = None
 volume_in (c ∷ ds) address = volume_by (c ∷ ds) c address (drive_at (length ds) address)
 
--- WHAT AN EVENT MAY CHANGE. A way from one element to another
-pub record Way : Type 0 where
-  pub source : ℕ
-  pub destination : ℕ
+-- WHAT AN EVENT MAY CHANGE. A way from one element to another, or two: the source's volume goes to the first destination, and that one's to the
+-- second
+pub data Way : Type 0 where
+  Carried : (source destination : ℕ) → Way
+  Exchanged : (source first second : ℕ) → Way
 
 abbrev pub way_of : Result Command Condition → Option Way
-way_of (Ok (Device (MoveMedium transport source destination invert))) = Some (record { source = source; destination = destination })
+way_of (Ok (Device (MoveMedium transport source destination invert))) = Some (Carried source destination)
+way_of (Ok (Device (Host (ExchangeMedium transport source first second inv1 inv2)))) = Some (Exchanged source first second)
 way_of command = None
 
--- the way that an event carried a volume in a target of a profile: that of a MOVE MEDIUM to the changer that ended GOOD
+-- the way that an event carried volumes in a target of a profile: that of a MOVE MEDIUM or EXCHANGE MEDIUM to the changer that ended GOOD
 abbrev pub carried_by : Profile → Event → Reply → Option Way
 carried_by profile (event.Command n zero cdb bytes) r = if is_good r.status then way_of (decoded_command (commands profile kind.Changer) cdb.items bytes.items) else None
 carried_by profile e r = None
@@ -75,17 +78,35 @@ StaysSame true true before after = SameCartridge before after
 
 -- one volume was carried: it has left its source and stands at its destination, which was empty, the same volume; and every other element
 -- is as it was
-pub record IsCarried (before after : List UnitView) (way : Way) : Type 0 where
+pub record IsCarried (before after : List UnitView) (source destination : ℕ) : Type 0 where
   pub volume : Volume
-  pub full : volume_in before way.source ≡ Some volume
-  pub empty : volume_in before way.destination ≡ None
-  pub left : volume_in after way.source ≡ None
-  pub there : SameAt SameVolume (Some volume) (volume_in after way.destination)
-  pub others : (address : ℕ) → address ≢ way.source → address ≢ way.destination → volume_in after address ≡ volume_in before address
+  pub full : volume_in before source ≡ Some volume
+  pub empty : volume_in before destination ≡ None
+  pub left : volume_in after source ≡ None
+  pub there : SameAt SameVolume (Some volume) (volume_in after destination)
+  pub others : (address : ℕ) → address ≢ source → address ≢ destination → volume_in after address ≡ volume_in before address
 
--- one volume was carried, or at every element there is the same volume, or none, as before
+-- two volumes were exchanged: the one at the source stands at the first destination, and the one that was there at the second; where that isn't
+-- the source, it was empty, and the source is
+pub record AreExchanged (before after : List UnitView) (source first second : ℕ) : Type 0 where
+  pub one : Volume
+  pub other : Volume
+  pub apart : (source ≢ first) × (first ≢ second)
+  pub full : volume_in before source ≡ Some one
+  pub first_full : volume_in before first ≡ Some other
+  pub empty : second ≢ source → volume_in before second ≡ None
+  pub left : second ≢ source → volume_in after source ≡ None
+  pub first_there : SameAt SameVolume (Some one) (volume_in after first)
+  pub there : SameAt SameVolume (Some other) (volume_in after second)
+  pub others : (address : ℕ) → address ≢ source → address ≢ first → address ≢ second → volume_in after address ≡ volume_in before address
+
+abbrev pub IsCarriedBy : (before after : List UnitView) → Way → Type 0
+IsCarriedBy before after (Carried source destination) = IsCarried before after source destination
+IsCarriedBy before after (Exchanged source first second) = AreExchanged before after source first second
+
+-- volumes were carried, or at every element there is the same volume, or none, as before
 abbrev pub KeepsVolumes : (before after : List UnitView) → Event → Reply → Option Way → Type 0
-KeepsVolumes before after e r (Some way) = IsCarried before after way
+KeepsVolumes before after e r (Some way) = IsCarriedBy before after way
 KeepsVolumes before after e r None = (address : ℕ) → SameAt (StaysSame (is_to e address) (is_written (profile_in before) e r)) (volume_in before address) (volume_in after address)
 
 -- so it is of each event of each run of a target, from the units before it to those after it

@@ -2,6 +2,7 @@ ghost use Rattle.target_laws.specs.Headline.{Headline};
 ghost use Rattle.target_laws.specs.BusyRows.{WhenBusy};
 ghost use Rattle.target_laws.specs.HeadlineRows.{FourAreAsked, AreDecided, NotRefused, NotDecided, NotServed};
 ghost use Rattle.target_laws.specs.CarriedRows.{VolumeGoes, VolumeDoesNotGo, MoveIsNotServed, MoveStops, NoDriveMoves};
+ghost use Rattle.target_laws.specs.ExchangeRows.{VolumesCross, VolumesDoNotCross, VolumesNotExchanged, ExchangeStops};
 ghost use Rattle.target_laws.specs.Rows.{sent, IsSent, WorkedRun, BusyRuns, LossesAndResets, UnitsOfATarget, MarksOfATarget, MarksByTag};
 ghost use Rattle.std.specs.Global.{Global};
 ghost use Rattle.tape_medium.specs.declared.volume.VolumeTag.{VolumeTag};
@@ -24,7 +25,7 @@ pub fn runs_one_after_another()
 /// at that unit, by the permission table and the rules on keys: of the commands that come to the check
 /// RESERVATION CONFLICT meets exactly those that they don't allow, and changes nothing but the contact
 /// and the record. A MOVE MEDIUM that names drives ends as they decide: one volume goes from its source
-/// to its destination, or none can.
+/// to its destination, or none can; and an EXCHANGE MEDIUM by its steps.
 pub fn headline()
     ensures { Headline }
 {}
@@ -62,6 +63,15 @@ pub fn worked_carrying()
     ensures not_served { MoveIsNotServed }
     ensures stops { MoveStops }
     ensures no_drive { NoDriveMoves }
+{}
+
+/// What it says of an exchange with a drive: which volumes go, from which elements to which, and that no
+/// other moves; what isn't such an exchange; and what is reported where none can go.
+pub fn worked_exchange()
+    ensures cross { VolumesCross }
+    ensures do_not_cross { VolumesDoNotCross }
+    ensures not_exchanged { VolumesNotExchanged }
+    ensures stops { ExchangeStops }
 {}
 
 /// Units that make a target, and why others don't.

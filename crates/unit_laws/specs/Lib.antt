@@ -6,6 +6,7 @@ pub mod Rows
 pub mod AttentionRows
 pub mod TrailRows
 pub mod MoveRows
+pub mod ExchangeRows
 pub mod AuditRows
 pub mod NumberRows
 pub mod CallRows

@@ -26,7 +26,7 @@ use Rattle.judgement.specs.declared.command.Command.TheVariants.{Prevent}
 use Rattle.judgement.specs.declared.command.Command.TheVariants as command
 use Rattle.judgement.specs.UnitStateView.{UnitStateView}
 use Rattle.judgement.specs.Judge.{asks_memory}
-use Rattle.logical_unit.specs.Move.{TwoDrives, judged_at, route_at, carried_one, is_carried, moved_one, moved_two, numbers_of}
+use Rattle.logical_unit.specs.Move.{TwoDrives, judged_at, errand_at, carried_one, is_carried, moved_one, moved_two, numbers_of}
 use Rattle.logical_unit.specs.Route.{named}
 use Rattle.unit_laws.specs.Rows.{a, b, held, slots_with, volume, drive_of, unit_with, drive_held, drive_prevented, Answer, answer_with, sense_with}
 use Rattle.logical_unit.specs.UnitView.{UnitView}
@@ -145,7 +145,7 @@ pub record RefusedMoves : Type 0 where
 -- whether a move with one drive carries its volume
 abbrev pub carries : (c d : UnitView) → (source destination : ℕ × ℕ) → Nexus → Bool
 carries c d source destination n =
-    let cdb = move source destination in is_carried (judged_at c n cdb []) (carried_one c.device d (route_at c cdb))
+    let cdb = move source destination in is_carried (judged_at c n cdb []) (carried_one c.device d (errand_at c cdb))
 
 -- it does where nothing refuses it, at the changer or at the drive
 pub record CarriedOrNot : Type 0 where

@@ -159,6 +159,28 @@ pub fn numbers_of_records()
     ensures { NumbersOfRecords }
 {}
 
+ghost use Rattle.unit_laws.specs.ExchangeRows.{NamedByExchanges, GivenEnds, ThroughADrive, SwappedWithADrive, OutOfADrive, IntoADriveBehind, RefusedExchanges, BetweenTwoDrives};
+
+/// The drive that an EXCHANGE MEDIUM names, and where the volume ends that a drive gives.
+pub fn ends_of_exchanges()
+    ensures names { NamedByExchanges }
+    ensures ends { GivenEnds }
+{}
+
+/// An EXCHANGE MEDIUM with a drive at each of its places, whatever the drive's reservation.
+pub fn exchanged_volumes()
+    ensures through { ThroughADrive }
+    ensures swapped { SwappedWithADrive }
+    ensures out { OutOfADrive }
+    ensures into { IntoADriveBehind }
+{}
+
+/// Exchanges that are refused for what is at the drive or at the changer, with no volume moved.
+pub fn refused_exchanges()
+    ensures drive { RefusedExchanges }
+    ensures two_drives { BetweenTwoDrives }
+{}
+
 ghost use Rattle.unit_laws.specs.CallRows.{ActKindRows, AtOnceRows, CountRows};
 
 /// Worked rows: what an entry keeps of an act, and the numbers of records by unit.

@@ -1,4 +1,4 @@
-use Rattle.device_server.proofs.MarkLemmas.{commands_keep_marks, resets_keep_marks, journeys_keep_marks}
+use Rattle.device_server.proofs.MarkLemmas.{commands_keep_marks, resets_keep_marks, journeys_keep_marks, exchanges_keep_marks}
 use Rattle.device_server.proofs.laws.marks_stay.Goals as goal
 
 pub returns-clause-performed : goal.returns-clause-performed
@@ -9,3 +9,6 @@ returns-clause-reset c = resets_keep_marks
 
 pub returns-clause-journey : goal.returns-clause-journey
 returns-clause-journey c = journeys_keep_marks
+
+pub returns-clause-exchange : goal.returns-clause-exchange
+returns-clause-exchange c = exchanges_keep_marks

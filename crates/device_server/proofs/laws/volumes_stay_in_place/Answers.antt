@@ -1,5 +1,5 @@
 use Rattle.device_server.proofs.TapeLemmas.{drives_keep_their_volume, drives_keep_their_tape, resets_keep_volumes}
-use Rattle.device_server.proofs.MoveLemmas.{changers_stay, moves_carry_one}
+use Rattle.device_server.proofs.MoveLemmas.{changers_stay, moves_carry_one, exchanges_carry_two}
 use Rattle.device_server.proofs.laws.volumes_stay_in_place.Goals as goal
 
 pub returns-clause-drives : goal.returns-clause-drives
@@ -16,3 +16,6 @@ returns-clause-moves c = moves_carry_one
 
 pub returns-clause-reset : goal.returns-clause-reset
 returns-clause-reset c = resets_keep_volumes
+
+pub returns-clause-exchanges : goal.returns-clause-exchanges
+returns-clause-exchanges c = exchanges_carry_two

@@ -37,3 +37,14 @@ pub returns-clause-step : goal.returns-clause-step
 returns-clause-step g c =
     rw (← ap (λ (v : KeptValue). v.unit) c.changer.view_is, ← ap (λ (v : KeptValue). v.unit) c.drive.view_is)
     c.carry_out_move_one-done.ensures.step
+
+pub returns-clause-only : goal.returns-clause-only
+returns-clause-only g c =
+    let names = kept_names _ 0 c.changer.inside.unit.unit _ _ _ c.args.received.now.commands c.args.received.now.cdb (g.row.LUN ∷ []) c.changer.invariant c.requires.commands
+    (subst (λ (v : KeptValue). named c.args.received.now.commands (drives_of v.unit.device) c.args.received.now.cdb ≡ g.row.LUN ∷ []) (sym c.changer.view_is)
+    c.requires.named) in
+    let m = one_move c.changer.inside.unit.unit c.drive.inside.unit.unit c.carry_out_move_one-done.new.changer.unit
+    c.carry_out_move_one-done.new.drive.unit g.row.LUN c.args.received.now.nexus c.args.received.now.cdb c.args.received.now.bytes
+    c.carry_out_move_one-done.result.reply c.carry_out_move_one-done.result.numbers names c.carry_out_move_one-done.ensures.step
+    c.carry_out_move_one-done.ensures.numbers c.changer.invariant.place c.drive.invariant.place c.requires.drive in
+    m.counts.only

@@ -1,15 +1,11 @@
 use Rattle.std.proofs.Common.{◌≡◌, [], ℕ, List, sym, ap, ◌∙◌}
-use Rattle.scsi_cdb.specs.declared.profile.CommandSet.{CommandSet}
-use Rattle.scsi_cdb.specs.declared.classes.Class.TheVariants as class
-use Rattle.audit_log.specs.declared.act.Act.{Act}
-use Rattle.audit_log.specs.declared.act.Act.TheVariants as act
-use Rattle.logical_unit.specs.declared.act_kind.ActKind.TheVariants as kind
+use Rattle.logical_unit.specs.declared.act_kind.ActKind.{ActKind}
 use Rattle.device_server.specs.View.{commands_of}
 use Rattle.device_server.proofs.SameDevice.{same_commands}
-use Rattle.judgement.specs.Commands.{act_of}
+use Rattle.judgement.specs.Commands.{act_of, act_of_decoded}
+use Rattle.judgement.specs.Received.{command_in}
 use Rattle.logical_unit.specs.ActKinds.{act_kind_of, act_kind_if}
 use Rattle.logical_unit.proofs.Carried.{one_settled, one_told}
-use Rattle.logical_unit.proofs.NamedDrives.{move_asked}
 use Rattle.logical_unit.proofs.SameUnits.{one_same}
 use Rattle.logical_unit.proofs.carrying_out.carry_out_move_one.Goals as goal
 
@@ -22,15 +18,9 @@ volume_after-volume-requires g c =
 
 pub returns-clause-act : goal.returns-clause-act
 returns-clause-act g c =
-    let asked = act_of c.args.received.now.commands c.args.received.now.cdb c.args.received.now.bytes in
-    let moves : asked ≡ act.Command class.MoveMedium
-    = ap (λ (k : CommandSet). act_of k c.args.received.now.cdb c.args.received.now.bytes) c.requires.kind
-    ∙ move_asked c.args.changer.now.unit.device c.args.received.now.cdb c.args.received.now.bytes c.args.drive.now.unit.state.lun []
-    c.requires.named in
     c.done_with.ensures.act ∙ c.recorded_kind-act.ensures
-    ∙ ap (λ (ns : List (ℕ × ℕ)). act_kind_if ns (kind.Command class.MoveMedium)) (c.as_slice.ensures.value ∙ sym
-    c.done_with.ensures.numbers)
-    ∙ ap (λ (a : Act). act_kind_if c.done_with.result.numbers (act_kind_of a)) (sym moves)
+    ∙ ap (λ (k : ActKind). act_kind_if c.as_slice.result.now k) c.kind_of_errand-asked.ensures
+    ∙ ap (λ (ns : List (ℕ × ℕ)). act_kind_if ns (act_kind_of (act_of_decoded (command_in c.args.received.now)))) (c.as_slice.ensures.value ∙ sym c.done_with.ensures.numbers)
 
 pub returns-clause-unnumbered : goal.returns-clause-unnumbered
 returns-clause-unnumbered g c = λ none.

@@ -1,8 +1,8 @@
-use Rattle.std.proofs.Common.{[], Some, None, inl, sym, ap, ◌∙◌, refl, rules}
+use Rattle.std.proofs.Common.{[], ◌+◌, Some, None, inl, sym, ap, ◌∙◌, refl, rules}
 use Rattle.judgement.specs.declared.reply.Reply.{Reply}
 use Rattle.logical_unit.specs.UnitView.{UnitWithRoom, last_number}
 use Rattle.logical_unit.proofs.MoveBusy.{answered_lacks}
-use Rattle.logical_unit.proofs.NumbersOf.{noted, answered_noted, ends_noted, joined, unmoved, drive_noted}
+use Rattle.logical_unit.proofs.NumbersOf.{noted, answered_noted, ends_noted, joined, unmoved, drive_noted_more}
 use Rattle.logical_unit.proofs.Outsiders.{never_left, one_unchanged}
 use Rattle.logical_unit.proofs.moves.move_one.Goals as goal
 
@@ -22,11 +22,12 @@ returns-in-Answered-clause-numbers g c =
 pub returns-in-Ok-clause-numbers : goal.returns-in-Ok-clause-numbers
 returns-in-Ok-clause-numbers g c =
     let same = ap (λ (x : UnitWithRoom). last_number x.unit) c.carry_one.ensures.changer ∙ ap last_number c.in-Left.ensures.unit in
-    joined _ _ _ _ _ c.with.ensures.numbers
+    joined _ _ _ _ _ c.with_more.ensures.numbers
     (c.of-in-Ok.ensures.numbers ∙ ap (λ lun. noted lun c.finish-reply.result) c.lun-lun.ensures ∙ ends_noted c.args.changer.now.unit
     c.carry_one.new.changer c.finish-reply.new.changer c.args.received.now.nexus c.in-Left.act c.in-Left.decision None
     c.finish-reply.result same c.finish-reply.ensures)
-    (drive_noted c.args.drive.now.unit c.carry_one.new.drive.unit _ _ c.lun-drive_lun.ensures c.in-Ok.ensures.number.1 c.in-Ok.ensures.last)
+    (drive_noted_more c.args.drive.now.unit c.carry_one.new.drive.unit _ _ _ c.lun-drive_lun.ensures c.last-last.ensures
+    (c.in-Ok.ensures.last ∙ ap (λ n. last_number c.args.drive.now.unit + n) (sym c.records.ensures)))
 
 pub returns-in-Err-clause-numbers : goal.returns-in-Err-clause-numbers
 returns-in-Err-clause-numbers g c =

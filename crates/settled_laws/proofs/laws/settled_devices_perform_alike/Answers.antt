@@ -1,6 +1,6 @@
 use Rattle.settled_laws.proofs.Performing.{perform_alike, refuse_alike}
 use Rattle.settled_laws.proofs.Showing.{show_alike}
-use Rattle.settled_laws.proofs.Volumes.{reset_alike, give_alike, put_alike, mark_alike, journey_alike}
+use Rattle.settled_laws.proofs.Volumes.{reset_alike, give_alike, put_alike, mark_alike, journey_alike, exchange_alike}
 use Rattle.settled_laws.proofs.laws.settled_devices_perform_alike.Goals as goal
 
 pub returns-clause-shown : goal.returns-clause-shown
@@ -26,3 +26,6 @@ returns-clause-marked c = mark_alike
 
 pub returns-clause-journeys : goal.returns-clause-journeys
 returns-clause-journeys c = journey_alike
+
+pub returns-clause-exchanges : goal.returns-clause-exchanges
+returns-clause-exchanges c = exchange_alike

@@ -1,15 +1,20 @@
-use Rattle.std.proofs.Common.{rules, ◌≡◌, Result, true, false, refl, sym, ap, subst, ◌∙◌}
+use Rattle.std.proofs.Common.{rules, ◌≡◌, Result, Ok, Err, true, false, refl, sym, ap, subst, ◌∙◌}
 use Rattle.scsi_sense.specs.declared.condition.Condition.TheVariants.{InternalTargetFailure}
 use Rattle.scsi_cdb.specs.declared.profile.CommandSet.{CommandSet}
-use Rattle.device_server.specs.View.{profile_of, commands_of}
+use Rattle.device_server.specs.View.{profile_of, commands_of, drives_of}
+use Rattle.scsi_cdb.specs.declared.fault.CdbFault.{CdbFault}
+use Rattle.scsi_cdb.specs.declared.request.Request.{Request}
+use Rattle.judgement.specs.Conditions.{condition_of_fault}
+use Rattle.judgement.specs.declared.command.Command.TheVariants.{Device}
+use Rattle.logical_unit.proofs.NamedDrives.{asks, moving}
 use Rattle.judgement.specs.Judge.{judged_as}
 use Rattle.judgement.specs.JudgedUnit.{JudgedUnit}
-use Rattle.judgement.specs.Commands.{decoded_command, act_of, act_of_decoded}
+use Rattle.judgement.specs.Commands.{command_of, decoded_command, act_of, act_of_decoded}
 use Rattle.judgement.specs.UnitState.{has_room, after_contact}
 use Rattle.judgement.specs.UnitStateView.{UnitStateView}
 use Rattle.judgement.specs.Replies.{check}
 use Rattle.logical_unit.specs.MoveJudgement.{IsLeft}
-use Rattle.logical_unit.specs.MoveFinding.{FindsMove}
+use Rattle.logical_unit.specs.MoveFinding.{FindsMove, spells_move}
 use Rattle.logical_unit.specs.declared.move_finding.MoveFinding.{MoveFinding}
 use Rattle.logical_unit.specs.UnitView.{RecordedUnitView, unit_of}
 use Rattle.logical_unit.proofs.LeftToDrives.{Opens, opens}
@@ -53,7 +58,7 @@ judged_so g c =
 -- what judgement left, with nothing changed
 opened : (g : given.Over) (c : goal.Joined-decoded-5 g)
     → Opens (g.D.DeviceServer.shown c.args.device.now.value) c.self.inside.state c.args.received.now.nexus c.args.received.now.cdb
-    c.args.received.now.bytes c.args.route c.in_ok-act.act
+    c.args.received.now.bytes c.args.errand c.in_ok-act.act
     (record { device = g.D.DeviceServer.shown c.judge_move.new.device.value; state = c.judge_move.new.state }) c.in-Left.decision
     (judged_as (record {
       device = g.D.DeviceServer.shown c.args.device.now.value;
@@ -64,8 +69,8 @@ opened : (g : given.Over) (c : goal.Joined-decoded-5 g)
 opened g c =
     let commands_are : c.args.received.now.commands ≡ commands_of (g.D.DeviceServer.shown c.args.device.now.value) = c.requires.kind in
     opens (g.D.DeviceServer.shown c.args.device.now.value) c.self.inside.state c.args.received.now.nexus c.args.received.now.cdb
-    c.args.received.now.bytes c.args.route c.in_ok-decoded.decoded c.in_ok-act.act _ c.in-Left.decision (check InternalTargetFailure)
-    c.requires.changer c.requires.route (subst (λ (v : RecordedUnitView). has_room v.state c.args.received.now.nexus ≡ true)
+    c.args.received.now.bytes c.args.errand c.in_ok-decoded.decoded c.in_ok-act.act _ c.in-Left.decision (check InternalTargetFailure)
+    c.requires.changer c.requires.errand (subst (λ (v : RecordedUnitView). has_room v.state c.args.received.now.nexus ≡ true)
     (sym c.self.view_is) c.requires.slot)
     (c.in_ok-decoded.ensures.ok ∙ ap (λ (k : CommandSet). decoded_command k c.args.received.now.cdb c.args.received.now.bytes) commands_are)
     c.in_ok-act.ensures.ok (judged_so g c) refl
@@ -84,7 +89,7 @@ pub returns-in-Left-clause-begins : goal.returns-in-Left-clause-begins
 returns-in-Left-clause-begins g c =
     let o = opened g c in
     subst (λ (v : RecordedUnitView). IsLeft (unit_of (g.D.DeviceServer.shown c.args.device.now.value) v) c.args.received.now.nexus
-    c.args.received.now.cdb c.args.received.now.bytes c.args.route c.in_ok-act.act c.in-Left.decision) c.self.view_is
+    c.args.received.now.cdb c.args.received.now.bytes c.args.errand c.in_ok-act.act c.in-Left.decision) c.self.view_is
     (record { left = o.left; present = o.present; found = o.decision; asked = asked_by g c; awaits = o.awaits; ways = o.ways })
 
 pub returns-in-Left-clause-stays : goal.returns-in-Left-clause-stays
@@ -145,3 +150,15 @@ returns-clause-begins g c =
           c.in_ok-act.act out _ c.self.view_is c.nexus-nexus.ensures c.bytes.ensures c.requires.kind c.in_ok-decoded.ensures.ok c.in_ok-act.ensures.ok
           found.1 (search rules fits 100);
     }
+
+-- what is asked moves volumes
+pub judge_move-requires-clause-moves : goal.judge_move-requires-clause-moves
+judge_move-requires-clause-moves g c =
+    let device = g.D.DeviceServer.shown c.args.device.now.value in
+    let bytes = c.args.received.now.bytes in
+    let e = c.requires.errand in
+    let moves = moving (drives_of device) e.request c.args.errand (asks (drives_of device) e.request c.args.errand e.asks) in
+    let is : decoded_command (commands_of device) c.args.received.now.cdb bytes ≡ Ok (Device e.request) =
+    ap (λ (o : Result Request CdbFault). elim o as (λ _. Result Command Condition) [ Ok q ↦ command_of q bytes | Err fault ↦ Err (condition_of_fault fault) ]) e.reads
+    ∙ moves.command bytes in
+    ap spells_move (c.in_ok-decoded.ensures.ok ∙ ap (λ (k : CommandSet). decoded_command k c.args.received.now.cdb bytes) c.requires.kind ∙ is) ∙ moves.moves
