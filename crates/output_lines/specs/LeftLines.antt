@@ -1,5 +1,5 @@
 -- Lines that are written as far as a writer takes them, and what is left of them.
-use Rattle.std.specs.Prelude.{◌≡◌, ℕ, List, ◌++◌, ◌==◌, length, drop, count_by, take, Option, Some, None, string_bytes}
+use Rattle.std.specs.Prelude.{◌≡◌, ◌⊎◌, ◌≤◌, ◌-◌, ℕ, List, ◌++◌, ◌==◌, length, drop, count_by, slice_index_or, take, Option, Some, None, string_bytes}
 use Rattle.std.specs.Io.KnownBytes.{Appends}
 use Rattle.audit_log.specs.declared.record.Record.{Record}
 use Rattle.output_lines.specs.AuditLines.{lines_of_records}
@@ -57,3 +57,9 @@ pub record GoesOn (written written' : Option (List ℕ)) (left left' : List ℕ)
   pub said : List ℕ
   pub appended : Appends written written' said
   pub rest : left ≡ said ++ left'
+
+-- a place in bytes at which a line begins, and none after it
+pub record IsBegunAgain (bytes : List ℕ) (place : ℕ) : Type 0 where
+  pub within : place ≤ length bytes
+  pub begins : (place ≡ 0) ⊎ (slice_index_or bytes (place - 1) 0 ≡ 10)
+  pub last : line_ends (drop place bytes) ≡ 0

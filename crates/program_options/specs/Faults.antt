@@ -1,7 +1,7 @@
 -- What is said of each fault, and the exit status of a program that ends by it (profile).
 use Rattle.std.specs.Prelude.{ℕ, List, codes}
 use Rattle.program_options.specs.declared.option_fault.OptionFault.{OptionFault}
-use Rattle.program_options.specs.declared.option_fault.OptionFault.TheVariants.{MoreVolumes, BadVolumeSize, BadMemorySize, BadNexus, NoPlace, ManyPortals, BadAddress, OpenAddress, BadToldAddress, NobodyLetIn, BadHost, BadSas, BadName, ManyHosts, NameTwice, SasTwice, NoSlotForOthers, BadDigests, BadProfile, BadLibraryNumber, NumberWithoutHosts}
+use Rattle.program_options.specs.declared.option_fault.OptionFault.TheVariants.{MoreVolumes, BadVolumeSize, BadMemorySize, BadNexus, NoPlace, ManyPortals, BadAddress, OpenAddress, BadToldAddress, NobodyLetIn, BadHost, BadSas, BadName, ManyHosts, NameTwice, SasTwice, NoSlotForOthers, BadDigests, BadFormat, BadProfile, BadLibraryNumber, NumberWithoutHosts}
 
 abbrev pub option_fault_text : OptionFault → List ℕ
 option_fault_text MoreVolumes = codes "vtl: more volumes than slots"
@@ -22,6 +22,7 @@ option_fault_text NameTwice = codes "vtl: a name is given twice: give it once, w
 option_fault_text SasTwice = codes "vtl: two names have one SAS address: give each its own"
 option_fault_text NoSlotForOthers = codes "vtl: --any-host can let nobody else in: each --host takes a slot at each --iscsi, and there are 128"
 option_fault_text BadDigests = codes "vtl: not a list of CHAP digests: give sha256 or sha256,md5"
+option_fault_text BadFormat = codes "vtl: not a format of records: give json or text"
 option_fault_text BadProfile = codes "vtl: not a profile: give spec or hosts"
 option_fault_text BadLibraryNumber = codes "vtl: not the number of a library: give its 8 hexadecimal digits, such as 1A2B3C4D"
 option_fault_text NumberWithoutHosts = codes "vtl: --library-id needs --profile hosts: no other library has a number"

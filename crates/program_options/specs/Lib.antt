@@ -7,6 +7,7 @@ pub mod ListenFaults
 pub mod Options
 pub mod Portals
 pub mod Profiles
+pub mod RecordFormats
 pub mod Rows
 pub mod ServeTimes
 pub mod ServeUntil

@@ -7,7 +7,7 @@ use Rattle.program_options.specs.ChapDigests.{digests_in}
 use Rattle.program_options.specs.declared.chap_digests.ChapDigests.TheVariants.{Sha256, Sha256AndMd5}
 use Rattle.program_options.specs.CommandLineFaults.{refusal_status, command_line_status, command_line_text}
 use Rattle.program_options.specs.declared.command_line_fault.CommandLineFault.TheVariants.{NotText, Options, NoMemory}
-use Rattle.program_options.specs.declared.option_fault.OptionFault.TheVariants.{MoreVolumes, BadMemorySize, BadVolumeSize, BadNexus, BadHost, BadName, BadSas, NoPlace, NoSlotForOthers, BadDigests, BadProfile, BadLibraryNumber, NumberWithoutHosts}
+use Rattle.program_options.specs.declared.option_fault.OptionFault.TheVariants.{MoreVolumes, BadMemorySize, BadVolumeSize, BadNexus, BadHost, BadName, BadSas, NoPlace, NoSlotForOthers, BadDigests, BadFormat, BadProfile, BadLibraryNumber, NumberWithoutHosts}
 use Rattle.program_options.specs.Faults.{option_fault_text, option_status}
 use Rattle.program_options.specs.Hosts.{nexus_by, sas_in}
 use Rattle.program_options.specs.HostsLetIn.{host_in, judged}
@@ -16,6 +16,8 @@ use Rattle.program_options.specs.Portals.{listened_in, told_in}
 use Rattle.program_options.specs.Profiles.{profile_in, number_in, number_of_target, made_profile, is_fitting}
 use Rattle.program_options.specs.declared.library_profile.LibraryProfile.TheVariants as library
 use Rattle.scsi_cdb.specs.declared.profile.Profile.TheVariants.{Spec, Hosts}
+use Rattle.program_options.specs.RecordFormats.{format_in}
+use Rattle.program_options.specs.declared.record_format.RecordFormat.TheVariants.{Json, Text}
 use Rattle.program_options.specs.ServeTimes.{nanos_of, timeout_nanos}
 use Rattle.program_options.specs.ServeUntil.{sessions_of, workers_of}
 use Rattle.program_options.specs.Sizes.{memory_size_in, volume_size_in}
@@ -191,3 +193,10 @@ pub record ProfilesChosen : Type 0 where
 pub record TargetsNumbered : Type 0 where
   pub usual : number_of_target (codes "iqn.2026-11.localhost:vtl") ≡ record { number = 0xC32FF006 }
   pub other : number_of_target (codes "iqn.2026-11.example:tapes") ≡ record { number = 0x99E02835 }
+
+pub record FormatsRead : Type 0 where
+  pub json : format_in (codes "json") ≡ Ok Json
+  pub text : format_in (codes "text") ≡ Ok Text
+  pub capital_letters : format_in (codes "JSON") ≡ Err BadFormat
+  pub other : format_in (codes "csv") ≡ Err BadFormat
+  pub nothing : format_in [] ≡ Err BadFormat

@@ -40,6 +40,8 @@ pub enum OptionFault {
     NoSlotForOthers,
     /// No list of digests by which hosts may answer.
     BadDigests,
+    /// What is the name of no format of records.
+    BadFormat,
     /// What is the name of no profile.
     BadProfile,
     /// A number of a library that isn't 8 hexadecimal digits.
@@ -102,6 +104,7 @@ impl OptionFault {
                 "vtl: --any-host can let nobody else in: each --host takes a slot at each --iscsi, and there are 128"
             }
             OptionFault::BadDigests => "vtl: not a list of CHAP digests: give sha256 or sha256,md5",
+            OptionFault::BadFormat => "vtl: not a format of records: give json or text",
             OptionFault::BadProfile => "vtl: not a profile: give spec or hosts",
             OptionFault::BadLibraryNumber => {
                 "vtl: not the number of a library: give its 8 hexadecimal digits, such as 1A2B3C4D"
