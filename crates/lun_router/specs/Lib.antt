@@ -10,3 +10,4 @@ pub mod SettlingRows
 pub mod Opening
 pub mod Closing
 pub mod ServedSteps
+pub mod Looking

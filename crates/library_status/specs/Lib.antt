@@ -1,0 +1,4 @@
+pub mod Words
+pub mod Json
+pub mod Picture
+pub mod Text

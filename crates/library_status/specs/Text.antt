@@ -1,0 +1,11 @@
+-- The text in which the status of a library is told (profile).
+use Rattle.std.specs.Prelude.{ℕ, List, ◌++◌}
+use Rattle.library_status.specs.Json.{library_json}
+use Rattle.library_status.specs.Picture.{picture}
+use Rattle.library_status.specs.Words.{word_text}
+use Rattle.library_status.specs.declared.word.Word.TheVariants as word
+use Rattle.library_status.specs.declared.summary.LibrarySummary.{LibrarySummary}
+
+-- a line of JSON, and then a picture
+unfoldable pub status_lines : LibrarySummary → List ℕ
+status_lines l = library_json l ++ word_text word.EndOfLine ++ picture l
