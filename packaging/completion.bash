@@ -9,7 +9,7 @@ _vtl() {
     ((COMP_CWORD > 1)) && command=("${COMP_WORDS[1]}")
     ((COMP_CWORD > 2)) && [[ ${command[0]} == media ]] && command+=("${COMP_WORDS[2]}")
     case ${COMP_WORDS[COMP_CWORD - 1]} in
-        --media | --socket | --chap | --config | check) mapfile -t COMPREPLY < <(compgen -f -- "$current") ;;
+        --media | --socket | --control | --chap | --config | --records | check | explain) mapfile -t COMPREPLY < <(compgen -f -- "$current") ;;
         *) mapfile -t COMPREPLY < <(compgen -W "$(_vtl_words "${command[@]}")" -- "$current") ;;
     esac
 }

@@ -19,7 +19,7 @@ from term import RUNNING, patience
 PATIENT = {"--login-timeout": 0, "--idle-timeout": 0, "--write-timeout": 0, "--idle-ping": 0, "--grace": 0}
 SERVING = "vtl: serving at "
 # What says of portals' records whether they are kept.
-KEEP_OR_NOT = {"--drain", "--spans", "--sessions"}
+KEEP_OR_NOT = {"--drain", "--spans", "--sessions", "--records"}
 UNLIMITED = resource.RLIM_INFINITY
 
 

@@ -11,6 +11,8 @@ use Rattle.program_options.specs.declared.given_library.GivenLibrary.{GivenLibra
 use Rattle.program_options.specs.declared.given_profile.GivenProfile.{GivenProfile}
 use Rattle.program_options.specs.declared.library_options.LibraryOptions.{LibraryOptions}
 use Rattle.program_options.specs.declared.library_profile.LibraryProfile.{LibraryProfile}
+use Rattle.program_options.specs.declared.record_format.RecordFormat.{RecordFormat}
+use Rattle.program_options.specs.declared.record_format.RecordFormat.TheVariants.{Json}
 use Rattle.program_options.specs.declared.serve_times.ServeTimes.{ServeTimes}
 use Rattle.program_options.specs.declared.serve_until.ServeUntil.{ServeUntil}
 use Rattle.program_options.specs.declared.serve_until.ServeUntil.TheVariants.{Sessions, InputEnds}
@@ -21,11 +23,12 @@ use Rattle.given_options.specs.declared.options.GivenPlace.{GivenPlace}
 use Rattle.given_options.specs.declared.options.GivenRecords.{GivenRecords}
 use Rattle.given_options.specs.declared.options.GivenTimes.{GivenTimes}
 use Rattle.command_line.specs.declared.task.MediaOptions.{MediaOptions}
+use Rattle.command_line.specs.declared.task.RecordFileOptions.{RecordFileOptions}
 use Rattle.command_line.specs.declared.task.ServeAim.{ServeAim}
 use Rattle.command_line.specs.declared.task.ServeAim.TheVariants as aim
 use Rattle.command_line.specs.declared.task.ServeOptions.{ServeOptions}
 use Rattle.command_line.specs.declared.task.Task.{Task}
-use Rattle.command_line.specs.declared.task.Task.TheVariants.{Replay, Serve, CheckServe, Client, Cells, CheckMedia}
+use Rattle.command_line.specs.declared.task.Task.TheVariants.{Replay, Serve, CheckServe, Client, Status, Cells, CheckMedia}
 
 -- for so many sessions, or until the input ends, by 64 workers at each place
 abbrev pub until_by : (sessions workers : Option ℕ) → ServeUntil
@@ -49,6 +52,11 @@ media_of None new_library given profile = None
 media_of (Some folder) new_library given profile =
     Some (record { folder = folder; without = if is_on new_library then Make else Refuse; given = given; profile = profile })
 
+-- in JSON, if nothing else is asked for
+abbrev pub record_file_of : (path : Option (String Global)) → Option RecordFormat → Option RecordFileOptions
+record_file_of None format = None
+record_file_of (Some path) format = Some (record { path = path; format = unwrap_or format Json })
+
 -- the name of the target, which is the usual one where none is given
 abbrev pub name_of_target : Option (String Global) → List ℕ
 name_of_target None = codes "iqn.2026-11.localhost:vtl"
@@ -68,10 +76,12 @@ pub record TimesOf (given : GivenTimes) (times : ServeTimes) : Type 0 where
 
 pub record IsServedBy (given : GivenOptions) (serving : ServeOptions) : Type 0 where
   pub socket : serving.socket ≡ given.place.socket
+  pub control : serving.control ≡ given.place.control
   pub media : serving.media ≡ media_of given.media.folder given.media.new_library given.library given.profile
   pub memory : serving.memory ≡ given.media.memory
   pub until : serving.until ≡ until_of given.place
   pub drain : serving.drain ≡ is_drained given.records given.place (is_some given.iscsi.portals)
+  pub record_file : serving.record_file ≡ record_file_of given.record_file.path given.record_file.format
   pub times : TimesOf given.times serving.times
   pub log : serving.log ≡ is_on given.log
 

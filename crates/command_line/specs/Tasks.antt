@@ -6,7 +6,7 @@ use Rattle.program_options.specs.ServeUntil.{workers_of}
 use Rattle.program_options.specs.Strangers.{most_strangers}
 use Rattle.program_options.specs.declared.library_options.LibraryOptions.{LibraryOptions}
 use Rattle.command_line.specs.declared.task.Task.{Task}
-use Rattle.command_line.specs.declared.task.Task.TheVariants.{Replay, Serve, CheckServe, Client, Cells, CheckMedia}
+use Rattle.command_line.specs.declared.task.Task.TheVariants.{Replay, Serve, CheckServe, Client, Status, Cells, CheckMedia, Explain}
 use Rattle.command_line.specs.declared.task.Asked.{Asked}
 use Rattle.command_line.specs.declared.task.Asked.TheVariants as asked
 use Rattle.given_options.specs.Ranges.{AreGiven}
@@ -58,8 +58,10 @@ IsDoable (Replay library profile explanations audit) = MakesLibrary library
 IsDoable (Serve library profile serving audit) = MakesServed library serving.media × IsServeOptions serving
 IsDoable (CheckServe library profile serving audit) = MakesServed library serving.media × IsServeOptions serving
 IsDoable (Client host explanations) = IsClientOptions host
+IsDoable (Status status) = Unit {0}
 IsDoable (Cells profile class) = Unit {0}
 IsDoable (CheckMedia folder) = Unit {0}
+IsDoable (Explain file) = Unit {0}
 
 -- a task that can be done, or options that are each in their range
 abbrev pub IsAsked : Asked → Type 0

@@ -1,8 +1,8 @@
 //! What the program's commands are and say of themselves.
 
 use crate::options::{
-    AUDIT, CELLS, CHECK, CLIENT, EXPLAIN, ISCSI, LIBRARY, LOG, MEDIA, OptionRow, PLACE, PROFILE,
-    PROFILE_ALONE, RECORDS, SOURCE, TIMES, with_options,
+    AUDIT, CELLS, CHECK, CLIENT, EXPLAIN, EXPLAINED, ISCSI, LIBRARY, LOG, MEDIA, OptionRow, PLACE,
+    PROFILE, PROFILE_ALONE, RECORDS, SOURCE, STATUS, TIMES, with_options,
 };
 use clap::Command;
 use std::alloc::{AllocError, Global};
@@ -31,11 +31,18 @@ Example: a library for one host over iSCSI:
   vtl serve --iscsi 127.0.0.1:3260 --host iqn.2026-11.example:a=500000000000000a --drain --log
 Examples: what a file of options would serve, and the same served:
   vtl serve --config examples/vtl.toml --check
-  vtl serve --config examples/vtl.toml";
+  vtl serve --config examples/vtl.toml
+Example: records for other programs:
+  vtl serve --socket /run/vtl/socket --records /var/log/vtl/records.json";
 
 const CLIENT_EXAMPLE: &str =
     "Example: a host that asks logical unit 0 whether it is ready, with the reply in words:
   echo '0 000000000000' | vtl client --socket /run/vtl/socket --sas 500000000000000a --port 1 --explain";
+
+const STATUS_EXAMPLE: &str =
+    "Examples: the library of the package's service, as often as it changes, and as JSON:
+  vtl status --watch
+  vtl status --control /run/vtl/control --json";
 
 const CELLS_EXAMPLE: &str = "Example: which host may write under which type of reservation:
   vtl cells 'WRITE(6)'";
@@ -43,13 +50,16 @@ const CELLS_EXAMPLE: &str = "Example: which host may write under which type of r
 const MEDIA_EXAMPLE: &str = "Example: what the images in a folder hold, and where one has a fault:
   vtl media check /var/lib/vtl";
 
+const WORDS_EXAMPLE: &str = "Example: what happened last:
+  tail /var/log/vtl/records.json | vtl explain";
+
 const EXAMPLES: &str = "Examples:
   vtl replay < examples/four_commands.script
   vtl cells 'WRITE(6)'
   vtl serve --socket /run/vtl/socket --sessions 2
   vtl client --socket /run/vtl/socket --sas 500000000000000a --port 1 < examples/host_a.script";
 
-const COMMANDS: [CommandRow; 4] = [
+const COMMANDS: [CommandRow; 6] = [
     CommandRow {
         name: "replay",
         about: "Runs the script on standard input, and prints a line for each reply",
@@ -71,10 +81,22 @@ const COMMANDS: [CommandRow; 4] = [
         tables: &[&CLIENT, &EXPLAIN],
     },
     CommandRow {
+        name: "status",
+        about: "Prints the state of a library that is served: its drives, elements, reservations and slots",
+        examples: STATUS_EXAMPLE,
+        tables: &[&STATUS],
+    },
+    CommandRow {
         name: "cells",
         about: "Prints which commands the permission table of persistent reservations allows",
         examples: CELLS_EXAMPLE,
         tables: &[&PROFILE_ALONE, &CELLS],
+    },
+    CommandRow {
+        name: "explain",
+        about: "Says in words what lines of records say that a server wrote into a file as JSON",
+        examples: WORDS_EXAMPLE,
+        tables: &[&EXPLAINED],
     },
 ];
 

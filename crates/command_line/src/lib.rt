@@ -12,5 +12,6 @@ pub use program_options::CommandLineFault;
 pub use reading::asked_of;
 pub use serving::serve_task;
 pub use task::{
-    Asked, ClientOptions, IscsiOptions, MediaOptions, ServeAim, ServeLine, ServeOptions, Task,
+    Asked, ClientOptions, IscsiOptions, MediaOptions, RecordFileOptions, ServeAim, ServeLine,
+    ServeOptions, StatusOptions, Task,
 };

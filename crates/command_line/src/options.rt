@@ -45,6 +45,9 @@ enum Presence {
     Default(&'static str),
 }
 
+/// Where the status of a library is asked for, where nothing else is said (profile).
+pub(crate) const DEFAULT_CONTROL: &str = "/run/vtl/control";
+
 /// What the help calls a time.
 const SECONDS: &str = "SECONDS";
 
@@ -219,6 +222,31 @@ pub(crate) const CLIENT: [OptionRow; 3] = [
     },
 ];
 
+/// Where the library is whose status is printed, and how it is printed.
+pub(crate) const STATUS: [OptionRow; 3] = [
+    OptionRow {
+        name: "control",
+        value: OptionValue::Text("PATH"),
+        presence: Presence::Default(DEFAULT_CONTROL),
+        excludes: None,
+        help: "The path that the server has as its --control",
+    },
+    OptionRow {
+        name: "watch",
+        value: OptionValue::Switch,
+        presence: Presence::Optional,
+        excludes: None,
+        help: "Prints it again every two seconds, until it is interrupted or the server ends",
+    },
+    OptionRow {
+        name: "json",
+        value: OptionValue::Switch,
+        presence: Presence::Optional,
+        excludes: None,
+        help: "Prints it as a line of JSON",
+    },
+];
+
 /// Which part of the permission table is printed.
 pub(crate) const CELLS: [OptionRow; 1] = [OptionRow {
     name: "class",
@@ -237,14 +265,30 @@ pub(crate) const CHECK: [OptionRow; 1] = [OptionRow {
     help: "The folder of the library",
 }];
 
+/// The file whose lines are said in words.
+pub(crate) const EXPLAINED: [OptionRow; 1] = [OptionRow {
+    name: "file",
+    value: OptionValue::Operand("FILE"),
+    presence: Presence::Optional,
+    excludes: None,
+    help: "The file with the lines; without it they are read from standard input",
+}];
+
 /// Where a library is served, for how long, and to how many.
-pub(crate) const PLACE: [OptionRow; 3] = [
+pub(crate) const PLACE: [OptionRow; 4] = [
     OptionRow {
         name: "socket",
         value: OptionValue::Text("PATH"),
         presence: Presence::Optional,
         excludes: None,
         help: "The path of the socket that the server makes",
+    },
+    OptionRow {
+        name: "control",
+        value: OptionValue::Text("PATH"),
+        presence: Presence::Optional,
+        excludes: None,
+        help: "The path of a second socket, at which vtl status asks for the state of the library; only the server's user may open it",
     },
     OptionRow {
         name: "sessions",
@@ -324,7 +368,7 @@ pub(crate) const ISCSI: [OptionRow; 8] = [
 ];
 
 /// When and how the records of a served library are printed.
-pub(crate) const RECORDS: [OptionRow; 3] = [
+pub(crate) const RECORDS: [OptionRow; 5] = [
     OptionRow {
         name: "spans",
         value: OptionValue::Switch,
@@ -347,6 +391,21 @@ pub(crate) const RECORDS: [OptionRow; 3] = [
         presence: Presence::Optional,
         excludes: None,
         help: "Keeps the records to the end with --iscsi too",
+    },
+    OptionRow {
+        name: "records",
+        value: OptionValue::Text("FILE"),
+        presence: Presence::Optional,
+        excludes: None,
+        help: "Appends a line for each record to this file, at least once a second, and prints none; a file that was moved away is \
+            followed by a new one",
+    },
+    OptionRow {
+        name: "format",
+        value: OptionValue::Text("FORMAT"),
+        presence: Presence::Optional,
+        excludes: None,
+        help: "How these lines are written: json, which is the default, or text",
     },
 ];
 

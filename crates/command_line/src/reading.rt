@@ -4,13 +4,14 @@ ghost use Rattle.given_options.specs.Ranges.{AreGiven};
 ghost use Rattle.command_line.specs.Tasks.{IsAsked, IsClientOptions, IsDoable, MakesLibrary};
 
 use crate::commands::program;
-use crate::task::{Asked, ClientOptions, ServeAim, ServeLine, Task};
+use crate::options::DEFAULT_CONTROL;
+use crate::task::{Asked, ClientOptions, ServeAim, ServeLine, StatusOptions, Task};
 use clap::ArgMatches;
 use clap::parser::ValueSource;
 use given_options::{
-    GivenIscsi, GivenMedia, GivenOptions, GivenPlace, GivenRecords, GivenTimes, MOST_SESSIONS,
-    digests_by, hosts_by, library_number_by, memory_size_by, portals_by, profile_by,
-    target_name_by, volume_size_by,
+    GivenIscsi, GivenMedia, GivenOptions, GivenPlace, GivenRecordFile, GivenRecords, GivenTimes,
+    MOST_SESSIONS, digests_by, format_by, hosts_by, library_number_by, memory_size_by, portals_by,
+    profile_by, target_name_by, volume_size_by,
 };
 use inquiry_data::LibraryNumber;
 use output_lines::{Audit, Explanations};
@@ -47,8 +48,14 @@ fn task_in(alloc: Global, matches: &ArgMatches) -> Result<Task, CommandLineFault
     if let Some(cells) = matches.subcommand_matches("cells") {
         return cells_task(alloc, cells);
     }
+    if let Some(status) = matches.subcommand_matches("status") {
+        return Ok(Task::Status(status_options_of(alloc, status)?));
+    }
     if let Some(media) = matches.subcommand_matches("media") {
         return Ok(Task::CheckMedia(checked_folder_of(alloc, media)?));
+    }
+    if let Some(explain) = matches.subcommand_matches("explain") {
+        return Ok(Task::Explain(text_of(alloc, explain.get_str("file"))?));
     }
     match matches.subcommand_matches("replay") {
         Some(replay) => replay_task(alloc, replay),
@@ -155,6 +162,7 @@ fn given_options_of(alloc: Global, command: &ArgMatches) -> Result<GivenOptions,
             drain: switch_of(command, "drain"),
             keep_records: switch_of(command, "keep-records"),
         },
+        record_file: record_file_of(alloc, command)?,
         times: given_times_of(command),
         log: switch_of(command, "log"),
     })
@@ -256,6 +264,7 @@ fn given_place_of(alloc: Global, command: &ArgMatches) -> Result<GivenPlace, Com
 {
     Ok(GivenPlace {
         socket: text_of(alloc, command.get_str("socket"))?,
+        control: text_of(alloc, command.get_str("control"))?,
         sessions: said_number8(command, "sessions", 1, MOST_SESSIONS),
         workers: said_number8(command, "workers", 1, MOST_SESSIONS),
     })
@@ -273,6 +282,21 @@ fn given_iscsi_of(alloc: Global, command: &ArgMatches) -> Result<GivenIscsi, Com
         chap: text_of(alloc, command.get_str("chap"))?,
         chap_digests: digests_of(alloc, command)?,
         no_authentication: switch_of(command, "no-authentication"),
+    })
+}
+
+/// Into which file a command has records written, and in which form.
+fn record_file_of(
+    alloc: Global,
+    command: &ArgMatches,
+) -> Result<GivenRecordFile, CommandLineFault> {
+    let format = match command.get_str("format") {
+        Some(word) => Some(format_by(alloc, word)?),
+        None => None,
+    };
+    Ok(GivenRecordFile {
+        path: text_of(alloc, command.get_str("records"))?,
+        format,
     })
 }
 
@@ -338,6 +362,16 @@ fn checked_folder_of(alloc: Global, media: &ArgMatches) -> Result<String, AllocE
         None => "",
     };
     String::from_str(alloc, folder)
+}
+
+/// Where a command asks for the status of a library, and how it is printed.
+fn status_options_of(alloc: Global, command: &ArgMatches) -> Result<StatusOptions, AllocError> {
+    let path = command.get_str("control").unwrap_or(DEFAULT_CONTROL);
+    Ok(StatusOptions {
+        control: String::from_str(alloc, path)?,
+        watch: command.get_flag("watch"),
+        json: command.get_flag("json"),
+    })
 }
 
 /// Whether a command wants replies in words, too.

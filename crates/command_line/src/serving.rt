@@ -6,18 +6,19 @@ ghost use Rattle.program_options.specs.Portals.{IsGuarded};
 ghost use Rattle.program_options.specs.Profiles.{is_fitting};
 ghost use Rattle.given_options.specs.Ranges.{AreGiven};
 ghost use Rattle.given_options.specs.Rules.{GoTogether};
-ghost use Rattle.command_line.specs.Serving.{IsServedBy, IsTaskOf, TimesOf, audit_of, is_drained, media_of, name_of_target, served_profile, until_of};
+ghost use Rattle.command_line.specs.Serving.{IsServedBy, IsTaskOf, TimesOf, audit_of, is_drained, media_of, name_of_target, record_file_of, served_profile, until_of};
 ghost use Rattle.command_line.specs.Tasks.{IsDoable, IsIscsiOptions, IsMediaOptions, IsServeOptions};
 
-use crate::task::{IscsiOptions, MediaOptions, ServeAim, ServeOptions, Task};
+use crate::task::{IscsiOptions, MediaOptions, RecordFileOptions, ServeAim, ServeOptions, Task};
 use given_options::{
-    GivenIscsi, GivenMedia, GivenOptions, GivenPlace, GivenRecords, GivenTimes, open_portal,
+    GivenIscsi, GivenMedia, GivenOptions, GivenPlace, GivenRecordFile, GivenRecords, GivenTimes,
+    open_portal,
 };
 use output_lines::Audit;
 use program_options::{
     ChapDigests, CommandLineFault, GivenLibrary, GivenProfile, LibraryOptions, LibraryProfile,
-    OptionFault, PortalOptions, ServeTimes, ServeUntil, WithoutLibrary, most_strangers,
-    number_of_target,
+    OptionFault, PortalOptions, RecordFormat, ServeTimes, ServeUntil, WithoutLibrary,
+    most_strangers, number_of_target,
 };
 use std::alloc::{AllocError, Global};
 
@@ -105,6 +106,7 @@ fn serve_options_of(alloc: Global, given: GivenOptions) -> Result<ServeOptions, 
         place,
         iscsi,
         records,
+        record_file,
         times,
         log,
     } = given;
@@ -115,18 +117,20 @@ fn serve_options_of(alloc: Global, given: GivenOptions) -> Result<ServeOptions, 
         memory,
     } = media;
     let until = until_of(&place);
-    let socket = place.socket;
+    let (socket, control) = (place.socket, place.control);
     let iscsi = iscsi_options_of(alloc, iscsi)?;
     if socket.is_none() && iscsi.is_none() {
         return Err(CommandLineFault::Options(OptionFault::NoPlace));
     }
     Ok(ServeOptions {
         socket,
+        control,
         iscsi,
         media: media_options_of(folder, new_library, library, profile),
         memory,
         until,
         drain,
+        record_file: record_file_of(record_file),
         times: times_of(times),
         log: log.unwrap_or(false),
     })
@@ -155,6 +159,17 @@ fn media_options_of(
             given,
             profile,
         }),
+        None => None,
+    }
+}
+
+/// Into which file records are written, if they are, and in which form: in JSON where nothing else is asked for.
+fn record_file_of(given: GivenRecordFile) -> Option<RecordFileOptions>
+    ensures { result ≡ record_file_of given.path given.format }
+{
+    let format = given.format.unwrap_or(RecordFormat::Json);
+    match given.path {
+        Some(path) => Some(RecordFileOptions { path, format }),
         None => None,
     }
 }

@@ -2,7 +2,7 @@ use given_options::GivenOptions;
 use output_lines::{Audit, Explanations};
 use program_options::{
     ChapDigests, GivenLibrary, GivenProfile, LibraryOptions, LibraryProfile, NamedHost,
-    PortalOptions, ServeTimes, ServeUntil, WithoutLibrary,
+    PortalOptions, RecordFormat, ServeTimes, ServeUntil, WithoutLibrary,
 };
 use scsi_cdb::{Class, Profile};
 use scsi_nexus::Nexus;
@@ -21,10 +21,14 @@ pub enum Task {
     CheckServe(LibraryOptions, LibraryProfile, ServeOptions, Audit),
     /// Send the script of standard input to a served library, and print its replies, in words too where that is wanted.
     Client(ClientOptions, Explanations),
+    /// Print the state of a library that is served.
+    Status(StatusOptions),
     /// Print the permission table of a profile, or the line of one class of its commands.
     Cells(Profile, Option<Class>),
     /// Print what the images of the volumes hold that are in the folder at this path, and what is wrong with them.
     CheckMedia(String),
+    /// Print what the lines of records in a file at this path say, or those of standard input.
+    Explain(Option<String>),
 }
 
 /// What a command line asks for.
@@ -58,6 +62,8 @@ pub enum ServeAim {
 pub struct ServeOptions {
     /// The path of the socket's file, if there is to be one.
     pub socket: Option<String>,
+    /// The path of the file of the socket at which the library's status is asked for, if there is to be one.
+    pub control: Option<String>,
     /// What iSCSI initiators connect to, if any may.
     pub iscsi: Option<IscsiOptions>,
     /// Where the library is kept, if it is to be.
@@ -67,11 +73,20 @@ pub struct ServeOptions {
     pub until: ServeUntil,
     /// Whether records are printed after each session, and within one whenever a unit has many of them, and are kept no longer.
     pub drain: bool,
+    /// The file into which they are written instead, if there is to be one.
+    pub record_file: Option<RecordFileOptions>,
     /// How long it waits for its hosts.
     pub times: ServeTimes,
     /// Whether what goes on in sessions is logged too: those that begin, end or take the place of others, initiators that log in, command
     /// numbers that did not come, and commands that ended in BUSY.
     pub log: bool,
+}
+
+/// Into which file records are written, and in which form.
+#[derive(Drop)]
+pub struct RecordFileOptions {
+    pub path: String,
+    pub format: RecordFormat,
 }
 
 /// Where a library is kept, and what it has to agree with.
@@ -106,6 +121,17 @@ pub struct IscsiOptions {
     pub chap: Option<String>,
     /// By which digests they may prove it.
     pub chap_digests: ChapDigests,
+}
+
+/// Where the status of a library is asked for, and how it is printed.
+#[derive(Drop)]
+pub struct StatusOptions {
+    /// The path of the file of the server's control socket.
+    pub control: String,
+    /// Whether it is printed again and again.
+    pub watch: bool,
+    /// Whether it is printed as JSON.
+    pub json: bool,
 }
 
 /// Where a client connects to a library, and as which host.

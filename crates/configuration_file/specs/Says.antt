@@ -4,18 +4,20 @@ use Rattle.std.specs.List.{list_any}
 use Rattle.std.specs.Str.{bytes_eq}
 use Rattle.program_options.specs.ChapDigests.{digests_in}
 use Rattle.program_options.specs.Profiles.{number_in, profile_in}
+use Rattle.program_options.specs.RecordFormats.{format_in}
 use Rattle.program_options.specs.Sizes.{memory_size_in, volume_size_in}
 use Rattle.program_options.specs.declared.given_library.GivenLibrary.{GivenLibrary}
 use Rattle.program_options.specs.declared.given_profile.GivenProfile.{GivenProfile}
 use Rattle.toml.specs.Data.{Data, Members, no_members, member, get_member}
 use Rattle.given_options.specs.Keys.{key_text}
 use Rattle.given_options.specs.declared.key.ServeKey.{ServeKey}
-use Rattle.given_options.specs.declared.key.ServeKey.TheVariants.{Drives, Slots, Portals, Volumes, VolumeSize, Profile, LibraryId, Media, NewLibrary, Memory, Socket, Sessions, Workers, TargetName, AnyHost, Multipath, Chap, ChapDigests, NoAuthentication, Spans, Drain, KeepRecords, Grace, LoginTimeout, IdleTimeout, WriteTimeout, IdlePing, Log}
+use Rattle.given_options.specs.declared.key.ServeKey.TheVariants.{Drives, Slots, Portals, Volumes, VolumeSize, Profile, LibraryId, Media, NewLibrary, Memory, Socket, Control, Sessions, Workers, TargetName, AnyHost, Multipath, Chap, ChapDigests, NoAuthentication, Spans, Drain, KeepRecords, Records, Format, Grace, LoginTimeout, IdleTimeout, WriteTimeout, IdlePing, Log}
 use Rattle.given_options.specs.declared.options.GivenIscsi.{GivenIscsi}
 use Rattle.given_options.specs.declared.options.GivenMedia.{GivenMedia}
 use Rattle.given_options.specs.declared.options.GivenOptions.{GivenOptions}
 use Rattle.given_options.specs.declared.options.GivenPlace.{GivenPlace}
 use Rattle.given_options.specs.declared.options.GivenRecords.{GivenRecords}
+use Rattle.given_options.specs.declared.options.GivenRecordFile.{GivenRecordFile}
 use Rattle.given_options.specs.declared.options.GivenTimes.{GivenTimes}
 use Rattle.configuration_file.specs.Values.{name_said, number_said, switch_said, text_said, word_said}
 
@@ -49,6 +51,7 @@ pub record SaysMedia (members : Members) (given : GivenMedia) : Type 0 where
 
 pub record SaysPlace (members : Members) (given : GivenPlace) : Type 0 where
   pub socket : text_said (at Socket members) ≡ Some (option_map string_bytes given.socket)
+  pub control : text_said (at Control members) ≡ Some (option_map string_bytes given.control)
   pub sessions : number_said 1 64 (at Sessions members) ≡ Some given.sessions
   pub workers : number_said 1 64 (at Workers members) ≡ Some given.workers
 
@@ -66,6 +69,10 @@ pub record SaysRecords (members : Members) (given : GivenRecords) : Type 0 where
   pub drain : switch_said (at Drain members) ≡ Some given.drain
   pub keep_records : switch_said (at KeepRecords members) ≡ Some given.keep_records
 
+pub record SaysRecordFile (members : Members) (given : GivenRecordFile) : Type 0 where
+  pub path : text_said (at Records members) ≡ Some (option_map string_bytes given.path)
+  pub format : word_said format_in (at Format members) ≡ Some given.format
+
 pub record SaysTimes (members : Members) (given : GivenTimes) : Type 0 where
   pub grace : number_said 0 3600 (at Grace members) ≡ Some given.grace
   pub login : number_said 0 86400 (at LoginTimeout members) ≡ Some given.login
@@ -81,5 +88,6 @@ pub record Says (members : Members) (given : GivenOptions) : Type 0 where
   pub place : SaysPlace members given.place
   pub iscsi : SaysIscsi members given.iscsi
   pub records : SaysRecords members given.records
+  pub record_file : SaysRecordFile members given.record_file
   pub times : SaysTimes members given.times
   pub log : switch_said (at Log members) ≡ Some given.log

@@ -26,6 +26,7 @@ media = \"/m\"
 new-library = true
 memory = \"4G\"
 socket = \"/s\"
+control = \"/c\"
 sessions = 3
 workers = 5
 iscsi = [\"127.0.0.1:3260\", \"[::1]:3260=a:1\"]
@@ -65,6 +66,7 @@ fn reads_every_option(rt: HostRuntime) -> Result<(), Fail> {
     );
     assert_eq!(rt; given.media.new_library, Some(true));
     assert_eq!(rt; given.media.memory, Some(4_294_967_296));
+    assert!(rt; given.place.control.is_some());
     assert_eq!(rt; given.place.sessions, Some(3));
     assert_eq!(rt; given.place.workers, Some(5));
     assert_eq!(rt; given.iscsi.any_host, Some(true));

@@ -4,6 +4,7 @@ ghost use Rattle.std.specs.Prelude.{◌≡◌, ◌≤◌, None, OnErr, Some, IfO
 ghost use Rattle.program_options.specs.ChapDigests.{digests_in};
 ghost use Rattle.program_options.specs.Options.{IsWithin};
 ghost use Rattle.program_options.specs.Profiles.{number_in, profile_in};
+ghost use Rattle.program_options.specs.RecordFormats.{format_in};
 ghost use Rattle.program_options.specs.Sizes.{memory_size_in, volume_size_in};
 ghost use Rattle.toml.specs.Data.{as_integer, as_str, get_member};
 ghost use Rattle.toml.specs.View.{table_view, view};
@@ -13,11 +14,11 @@ ghost use Rattle.configuration_file.specs.Values.{name_said, number_of, number_s
 use crate::form::ValueForm;
 use crate::key_fault::{KeyFault, ValueFault};
 use given_options::{
-    ServeKey, digests_by, library_number_by, memory_size_by, profile_by, target_name_by,
+    ServeKey, digests_by, format_by, library_number_by, memory_size_by, profile_by, target_name_by,
     volume_size_by,
 };
 use inquiry_data::LibraryNumber;
-use program_options::ChapDigests;
+use program_options::{ChapDigests, RecordFormat};
 use scsi_cdb::Profile;
 use std::alloc::Global;
 use toml::{Table, Value};
@@ -169,6 +170,20 @@ pub(crate) fn volume_size_at(alloc: Global, table: &Table) -> Result<Option<u64>
     };
     match volume_size_by(alloc, word_in(value, key)?) {
         Ok(size) => Ok(Some(size)),
+        Err(fault) => Err(KeyFault::of_words(key, ValueForm::Text, fault)),
+    }
+}
+
+/// In which form records are written into a file, if it is said.
+pub(crate) fn format_at(alloc: Global, table: &Table) -> Result<Option<RecordFormat>, KeyFault>
+    ensures { IfOk result (λ format. word_said format_in (at ServeKey.Format (table_view table.now)) ≡ Some format) }
+{
+    let key = ServeKey::Format;
+    let Some(value) = value_at(table, key) else {
+        return Ok(None);
+    };
+    match format_by(alloc, word_in(value, key)?) {
+        Ok(format) => Ok(Some(format)),
         Err(fault) => Err(KeyFault::of_words(key, ValueForm::Text, fault)),
     }
 }

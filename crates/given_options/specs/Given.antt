@@ -2,7 +2,7 @@
 use Rattle.std.specs.Prelude.{Bool, is_some}
 use Rattle.given_options.specs.Switches.{is_on}
 use Rattle.given_options.specs.declared.key.ServeKey.{ServeKey}
-use Rattle.given_options.specs.declared.key.ServeKey.TheVariants.{Drives, Slots, Portals, Volumes, VolumeSize, Profile, LibraryId, Media, NewLibrary, Memory, Socket, Sessions, Workers, Iscsi, TargetName, Hosts, AnyHost, Multipath, Chap, ChapDigests, NoAuthentication, Spans, Drain, KeepRecords, Grace, LoginTimeout, IdleTimeout, WriteTimeout, IdlePing, Log}
+use Rattle.given_options.specs.declared.key.ServeKey.TheVariants.{Drives, Slots, Portals, Volumes, VolumeSize, Profile, LibraryId, Media, NewLibrary, Memory, Socket, Control, Sessions, Workers, Iscsi, TargetName, Hosts, AnyHost, Multipath, Chap, ChapDigests, NoAuthentication, Spans, Drain, KeepRecords, Records, Format, Grace, LoginTimeout, IdleTimeout, WriteTimeout, IdlePing, Log}
 use Rattle.given_options.specs.declared.options.GivenOptions.{GivenOptions}
 
 abbrev pub is_given : ServeKey → GivenOptions → Bool
@@ -17,6 +17,7 @@ is_given Media given = is_some given.media.folder
 is_given NewLibrary given = is_on given.media.new_library
 is_given Memory given = is_some given.media.memory
 is_given Socket given = is_some given.place.socket
+is_given Control given = is_some given.place.control
 is_given Sessions given = is_some given.place.sessions
 is_given Workers given = is_some given.place.workers
 is_given Iscsi given = is_some given.iscsi.portals
@@ -30,6 +31,8 @@ is_given NoAuthentication given = is_on given.iscsi.no_authentication
 is_given Spans given = is_on given.records.spans
 is_given Drain given = is_on given.records.drain
 is_given KeepRecords given = is_on given.records.keep_records
+is_given Records given = is_some given.record_file.path
+is_given Format given = is_some given.record_file.format
 is_given Grace given = is_some given.times.grace
 is_given LoginTimeout given = is_some given.times.login
 is_given IdleTimeout given = is_some given.times.idle

@@ -5,7 +5,8 @@ use Rattle.given_options.specs.Given.{is_given}
 use Rattle.given_options.specs.Rules.{judged_options, rule_text}
 use Rattle.given_options.specs.Winning.{winning_library, winning_options, winning_profile, winning_records, winning_times}
 use Rattle.scsi_cdb.specs.declared.profile.Profile.TheVariants as scsi
-use Rattle.given_options.specs.declared.key.ServeKey.TheVariants.{Drain, Hosts, Iscsi, LibraryId, NoAuthentication, Sessions, Spans, VolumeSize, Workers}
+use Rattle.given_options.specs.declared.key.ServeKey.TheVariants.{Drain, Format, Hosts, Iscsi, LibraryId, NoAuthentication, Records, Sessions, Spans, VolumeSize, Workers}
+use Rattle.program_options.specs.declared.record_format.RecordFormat.TheVariants.{Text}
 use Rattle.given_options.specs.declared.options.GivenOptions.{GivenOptions}
 use Rattle.given_options.specs.declared.rule.OptionRule.TheVariants.{Excludes, Needs}
 
@@ -39,9 +40,10 @@ nothing = record {
   volume_size = None;
   profile = record { profile = None; library_number = None };
   media = record { folder = None; new_library = None; memory = None };
-  place = record { socket = None; sessions = None; workers = None };
+  place = record { socket = None; control = None; sessions = None; workers = None };
   iscsi = record { portals = None; target_name = None; hosts = None; any_host = None; multipath = None; chap = None; chap_digests = None; no_authentication = None };
   records = record { spans = None; drain = None; keep_records = None };
+  record_file = record { path = None; format = None };
   times = record { grace = None; login = None; idle = None; write = None; ping = None };
   log = None;
 }
@@ -57,15 +59,19 @@ abbrev pub numbered : GivenOptions
 numbered = record nothing { profile = record { profile = None; library_number = Some (record { number = 9 }) } }
 
 abbrev pub for_a_session : GivenOptions
-for_a_session = record nothing { place = record { socket = None; sessions = Some 1; workers = None } }
+for_a_session = record nothing { place = record { socket = None; control = None; sessions = Some 1; workers = None } }
 
 abbrev pub by_workers : GivenOptions
-by_workers = record nothing { place = record { socket = None; sessions = None; workers = Some 16 } }
+by_workers = record nothing { place = record { socket = None; control = None; sessions = None; workers = Some 16 } }
 
 abbrev pub without_authentication : GivenOptions
 without_authentication = record nothing {
   iscsi = record { portals = None; target_name = None; hosts = None; any_host = None; multipath = None; chap = None; chap_digests = None; no_authentication = Some true };
 }
+
+-- a form of records that are written into no file
+abbrev pub formed : GivenOptions
+formed = record nothing { record_file = record { path = None; format = Some Text } }
 
 pub record OptionsThatGoTogether : Type 0 where
   pub none : judged_options nothing ≡ Ok tt
@@ -74,4 +80,5 @@ pub record OptionsThatGoTogether : Type 0 where
   pub off_is_not_given : is_given Drain with_spans ≡ false
   pub one_of_each_source : judged_options (winning_options drained with_spans) ≡ Err (Excludes Drain Spans)
   pub term_of_each_source : judged_options (winning_options for_a_session by_workers) ≡ Err (Excludes Workers Sessions)
+  pub form_of_no_file : judged_options formed ≡ Err (Needs Format Records)
   pub without_portals : judged_options without_authentication ≡ Err (Needs NoAuthentication Iscsi)

@@ -7,6 +7,7 @@ use Rattle.given_options.specs.declared.options.GivenMedia.{GivenMedia}
 use Rattle.given_options.specs.declared.options.GivenPlace.{GivenPlace}
 use Rattle.given_options.specs.declared.options.GivenIscsi.{GivenIscsi}
 use Rattle.given_options.specs.declared.options.GivenRecords.{GivenRecords}
+use Rattle.given_options.specs.declared.options.GivenRecordFile.{GivenRecordFile}
 use Rattle.given_options.specs.declared.options.GivenTimes.{GivenTimes}
 
 abbrev pub winning_library : (first second : GivenLibrary) → GivenLibrary
@@ -34,6 +35,7 @@ winning_media first second = record {
 abbrev pub winning_place : (first second : GivenPlace) → GivenPlace
 winning_place first second = record {
   socket = option_or first.socket second.socket;
+  control = option_or first.control second.control;
   sessions = option_or first.sessions second.sessions;
   workers = option_or first.workers second.workers;
 }
@@ -58,6 +60,12 @@ winning_records first second = record {
   keep_records = option_or first.keep_records second.keep_records;
 }
 
+abbrev pub winning_record_file : (first second : GivenRecordFile) → GivenRecordFile
+winning_record_file first second = record {
+  path = option_or first.path second.path;
+  format = option_or first.format second.format;
+}
+
 abbrev pub winning_times : (first second : GivenTimes) → GivenTimes
 winning_times first second = record {
   grace = option_or first.grace second.grace;
@@ -76,6 +84,7 @@ winning_options first second = record {
   place = winning_place first.place second.place;
   iscsi = winning_iscsi first.iscsi second.iscsi;
   records = winning_records first.records second.records;
+  record_file = winning_record_file first.record_file second.record_file;
   times = winning_times first.times second.times;
   log = option_or first.log second.log;
 }

@@ -15,6 +15,7 @@ pub enum ServeKey {
     NewLibrary,
     Memory,
     Socket,
+    Control,
     Sessions,
     Workers,
     Iscsi,
@@ -28,6 +29,8 @@ pub enum ServeKey {
     Spans,
     Drain,
     KeepRecords,
+    Records,
+    Format,
     Grace,
     LoginTimeout,
     IdleTimeout,
@@ -37,7 +40,7 @@ pub enum ServeKey {
 }
 
 /// All of them.
-pub const SERVE_KEYS: [ServeKey; 30] = [
+pub const SERVE_KEYS: [ServeKey; 33] = [
     ServeKey::Drives,
     ServeKey::Slots,
     ServeKey::Portals,
@@ -49,6 +52,7 @@ pub const SERVE_KEYS: [ServeKey; 30] = [
     ServeKey::NewLibrary,
     ServeKey::Memory,
     ServeKey::Socket,
+    ServeKey::Control,
     ServeKey::Sessions,
     ServeKey::Workers,
     ServeKey::Iscsi,
@@ -62,6 +66,8 @@ pub const SERVE_KEYS: [ServeKey; 30] = [
     ServeKey::Spans,
     ServeKey::Drain,
     ServeKey::KeepRecords,
+    ServeKey::Records,
+    ServeKey::Format,
     ServeKey::Grace,
     ServeKey::LoginTimeout,
     ServeKey::IdleTimeout,
@@ -87,6 +93,7 @@ impl ServeKey {
             ServeKey::NewLibrary => "new-library",
             ServeKey::Memory => "memory",
             ServeKey::Socket => "socket",
+            ServeKey::Control => "control",
             ServeKey::Sessions => "sessions",
             ServeKey::Workers => "workers",
             ServeKey::Iscsi => "iscsi",
@@ -100,6 +107,8 @@ impl ServeKey {
             ServeKey::Spans => "spans",
             ServeKey::Drain => "drain",
             ServeKey::KeepRecords => "keep-records",
+            ServeKey::Records => "records",
+            ServeKey::Format => "format",
             ServeKey::Grace => "grace",
             ServeKey::LoginTimeout => "login-timeout",
             ServeKey::IdleTimeout => "idle-timeout",

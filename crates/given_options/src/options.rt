@@ -3,7 +3,9 @@ ghost use Rattle.given_options.specs.Switches.{is_on};
 ghost use Rattle.given_options.specs.Winning.{winning_library, winning_profile};
 
 use crate::key::ServeKey;
-use program_options::{ChapDigests, GivenLibrary, GivenProfile, NamedHost, PortalOptions};
+use program_options::{
+    ChapDigests, GivenLibrary, GivenProfile, NamedHost, PortalOptions, RecordFormat,
+};
 
 /// The most sessions, and the most workers at a place (profile).
 pub const MOST_SESSIONS: u8 = 64;
@@ -21,6 +23,7 @@ pub struct GivenOptions {
     pub place: GivenPlace,
     pub iscsi: GivenIscsi,
     pub records: GivenRecords,
+    pub record_file: GivenRecordFile,
     pub times: GivenTimes,
     /// Whether all that goes on in sessions is logged.
     pub log: Option<bool>,
@@ -37,11 +40,13 @@ pub struct GivenMedia {
     pub memory: Option<u64>,
 }
 
-/// Where hosts connect by frames, for how long a library is served, and to how many.
+/// Where hosts connect by frames, where the library's status is asked for, for how long it is served, and to how many.
 #[derive(Drop)]
 pub struct GivenPlace {
     /// The path of the socket's file.
     pub socket: Option<String>,
+    /// The path of the file of the socket at which the library's status is asked for.
+    pub control: Option<String>,
     /// After how many connections the server ends.
     pub sessions: Option<u8>,
     /// How many sessions there may be at a time at each place.
@@ -73,6 +78,14 @@ pub struct GivenRecords {
     pub spans: Option<bool>,
     pub drain: Option<bool>,
     pub keep_records: Option<bool>,
+}
+
+/// Into which file records are written, and in which form.
+#[derive(Drop)]
+pub struct GivenRecordFile {
+    /// The path of the file.
+    pub path: Option<String>,
+    pub format: Option<RecordFormat>,
 }
 
 /// How many seconds a server waits for its hosts.
@@ -130,6 +143,7 @@ impl GivenPlace {
     {
         GivenPlace {
             socket: self.socket.or(other.socket),
+            control: self.control.or(other.control),
             sessions: self.sessions.or(other.sessions),
             workers: self.workers.or(other.workers),
         }
@@ -169,6 +183,19 @@ impl GivenRecords {
     }
 }
 
+impl GivenRecordFile {
+    ghost use Rattle.given_options.specs.Winning.{winning_record_file};
+
+    fn over(self, other: GivenRecordFile) -> GivenRecordFile
+        ensures { result ≡ winning_record_file self other }
+    {
+        GivenRecordFile {
+            path: self.path.or(other.path),
+            format: self.format.or(other.format),
+        }
+    }
+}
+
 impl GivenTimes {
     ghost use Rattle.given_options.specs.Winning.{winning_times};
 
@@ -204,6 +231,7 @@ impl GivenOptions {
             place: self.place.over(file.place),
             iscsi: self.iscsi.over(file.iscsi),
             records: self.records.over(file.records),
+            record_file: self.record_file.over(file.record_file),
             times: self.times.over(file.times),
             log: self.log.or(file.log),
         }
@@ -225,6 +253,7 @@ impl GivenOptions {
             ServeKey::NewLibrary => is_on(self.media.new_library),
             ServeKey::Memory => self.media.memory.is_some(),
             ServeKey::Socket => self.place.socket.is_some(),
+            ServeKey::Control => self.place.control.is_some(),
             ServeKey::Sessions => self.place.sessions.is_some(),
             ServeKey::Workers => self.place.workers.is_some(),
             ServeKey::Iscsi => self.iscsi.portals.is_some(),
@@ -238,6 +267,8 @@ impl GivenOptions {
             ServeKey::Spans => is_on(self.records.spans),
             ServeKey::Drain => is_on(self.records.drain),
             ServeKey::KeepRecords => is_on(self.records.keep_records),
+            ServeKey::Records => self.record_file.path.is_some(),
+            ServeKey::Format => self.record_file.format.is_some(),
             ServeKey::Grace => self.times.grace.is_some(),
             ServeKey::LoginTimeout => self.times.login.is_some(),
             ServeKey::IdleTimeout => self.times.idle.is_some(),

@@ -13,12 +13,16 @@ pub enum OptionRule {
 }
 
 /// The rules. Of several that are broken the first is reported.
-const RULES: [OptionRule; 13] = [
+const RULES: [OptionRule; 17] = [
     OptionRule::Excludes(ServeKey::Workers, ServeKey::Sessions),
     OptionRule::Excludes(ServeKey::Sessions, ServeKey::Iscsi),
     OptionRule::Excludes(ServeKey::Drain, ServeKey::Spans),
     OptionRule::Excludes(ServeKey::KeepRecords, ServeKey::Drain),
+    OptionRule::Excludes(ServeKey::Records, ServeKey::Spans),
+    OptionRule::Excludes(ServeKey::Records, ServeKey::Drain),
+    OptionRule::Excludes(ServeKey::Records, ServeKey::KeepRecords),
     OptionRule::Excludes(ServeKey::NoAuthentication, ServeKey::Chap),
+    OptionRule::Needs(ServeKey::Format, ServeKey::Records),
     OptionRule::Needs(ServeKey::NewLibrary, ServeKey::Media),
     OptionRule::Needs(ServeKey::TargetName, ServeKey::Iscsi),
     OptionRule::Needs(ServeKey::Hosts, ServeKey::Iscsi),

@@ -4,6 +4,7 @@ ghost use Rattle.std.specs.Prelude.{◌≡◌, ◌≤◌, IfErr, IfOk, string_by
 ghost use Rattle.iscsi_keys.specs.IscsiNames.{is_iscsi_name};
 ghost use Rattle.program_options.specs.ChapDigests.{digests_in};
 ghost use Rattle.program_options.specs.Profiles.{number_in, profile_in};
+ghost use Rattle.program_options.specs.RecordFormats.{format_in};
 ghost use Rattle.program_options.specs.Sizes.{memory_size_in, volume_size_in};
 ghost use Rattle.program_options.specs.declared.option_fault.OptionFault.{OptionFault};
 ghost use Rattle.given_options.specs.Words.{IsRefusal};
@@ -11,8 +12,9 @@ ghost use Rattle.given_options.specs.Words.{IsRefusal};
 use crate::word_fault::WordFault;
 use inquiry_data::LibraryNumber;
 use program_options::{
-    ChapDigests, NamedHost, OptionFault, PortalOptions, chap_digests_of, host_beside,
-    is_iscsi_name, library_number_of, memory_size_of, portal_of, profile_of, volume_size_of,
+    ChapDigests, NamedHost, OptionFault, PortalOptions, RecordFormat, chap_digests_of, host_beside,
+    is_iscsi_name, library_number_of, memory_size_of, portal_of, profile_of, record_format_of,
+    volume_size_of,
 };
 use scsi_cdb::Profile;
 use std::alloc::{AllocError, Global};
@@ -83,6 +85,17 @@ pub fn digests_by(alloc: Global, word: &str) -> Result<ChapDigests, WordFault>
 {
     match chap_digests_of(word) {
         Ok(digests) => Ok(digests),
+        Err(fault) => Err(refused_word(alloc, fault, word)),
+    }
+}
+
+/// In which form records are written into a file.
+pub fn format_by(alloc: Global, word: &str) -> Result<RecordFormat, WordFault>
+    ensures ok { IfOk result (λ format. format_in word.now ≡ Ok format) }
+    ensures err { IfErr result (λ refusal. (fault : OptionFault) × (format_in word.now ≡ Err fault) × IsRefusal fault word.now refusal) }
+{
+    match record_format_of(word) {
+        Ok(format) => Ok(format),
         Err(fault) => Err(refused_word(alloc, fault, word)),
     }
 }

@@ -5,6 +5,7 @@ use Rattle.iscsi_chap.specs.declared.secrets_fault.LineFault.{LineFault}
 use Rattle.iscsi_chap.specs.declared.secrets_fault.LineFault.TheVariants.{FieldCount, Name, SecretLength, SameSecret, UserTwice}
 use Rattle.media_folder.specs.Faults.{folder_status}
 use Rattle.program_options.specs.ListenFaults.{listen_status, listen_text}
+use Rattle.record_file.specs.Faults.{file_fault_text}
 use Rattle.library_server.specs.ServerFaults as host
 use Rattle.library_server.specs.declared.socket_fault.SocketFault.{SocketFault}
 use Rattle.library_server.specs.declared.socket_fault.SocketFault.TheVariants as serve
@@ -15,6 +16,7 @@ socket_status (serve.CannotRead path) = 4
 socket_status (serve.OpenSecrets path) = 2
 socket_status (serve.BadSecrets path number what) = 2
 socket_status (serve.Folder fault) = folder_status fault
+socket_status (serve.Records fault) = 4
 socket_status (serve.Server fault) = host.exit_status fault
 socket_status serve.Lines = 4
 
@@ -35,5 +37,6 @@ socket_text (serve.OpenSecrets path) =
 socket_text (serve.BadSecrets path number what) =
     Some (codes "vtl: " ++ (string_bytes path ++ (codes ", line " ++ (decimal number ++ (codes ": " ++ line_words what)))))
 socket_text (serve.Folder fault) = None
+socket_text (serve.Records fault) = Some (file_fault_text fault)
 socket_text (serve.Server fault) = Some (host.fault_text fault)
 socket_text serve.Lines = Some (codes "vtl: device fault\nvtl: the lines of what would be served could not be written")

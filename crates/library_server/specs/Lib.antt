@@ -8,3 +8,4 @@ pub mod ServedSeats
 pub mod ServerFaults
 pub mod Serving
 pub mod Targets
+pub mod Status

@@ -15,6 +15,7 @@ use media_folder::{PlannedFolder, PlannedImage, PlannedVolume, WantedLibrary, pl
 use output_lines::Audit;
 use program_options::{LibraryOptions, LibraryProfile};
 use read_only_files::ReadOnlyFiles;
+use record_file::{FileFault, look_at};
 use std::alloc::{AllocError, Global};
 use std::fs::{File, Files};
 use std::io::Write;
@@ -38,15 +39,20 @@ pub fn check_serving<R: AllocGlobal + Files<File = File>, W: Write, E: Write>(
     let files = ReadOnlyFiles::new(rt);
     let ServeOptions {
         socket,
+        control,
         iscsi,
         media,
         memory,
         until,
         drain,
+        record_file,
         times,
         log: _,
     } = serving;
     let made = target_of(&files, iscsi)?;
+    if let Some(file) = &record_file {
+        look_at_file(rt.alloc(), &files, file.path.as_str())?;
+    }
     let size = options.volume_size;
     let library = match media {
         Some(media) => {
@@ -57,6 +63,7 @@ pub fn check_serving<R: AllocGlobal + Files<File = File>, W: Write, E: Write>(
     };
     let places = ServedPlaces {
         socket: &socket,
+        control: &control,
         made: &made,
         until,
     };
@@ -65,9 +72,21 @@ pub fn check_serving<R: AllocGlobal + Files<File = File>, W: Write, E: Write>(
         memory,
         drain,
         audit,
+        record_file: &record_file,
         times,
     };
     write_served(out, &places, &library, &terms).map_err(|_| SocketFault::Lines)
+}
+
+/// Looks whether there can be a file of records at a path.
+fn look_at_file<R: Files>(alloc: Global, files: &R, path: &str) -> Result<(), SocketFault> {
+    match look_at(files, path) {
+        Ok(()) => Ok(()),
+        Err(why) => Err(SocketFault::Records(FileFault {
+            path: String::from_str(alloc, path)?,
+            why,
+        })),
+    }
 }
 
 /// What would be served of the folder of a library.

@@ -88,7 +88,7 @@ pub(crate) fn hand_out_as_asked<D: RecordSource, R: Wait, W: Write, E: Write>(
 }
 
 /// What is to be told of how handing out went: that it fails since now, or no longer does.
-fn change_of(was_failing: bool, is_failing: bool) -> Option<Event>
+pub(crate) fn change_of(was_failing: bool, is_failing: bool) -> Option<Event>
     ensures { result ≡ change_of was_failing is_failing }
 {
     match (was_failing, is_failing) {

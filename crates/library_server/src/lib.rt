@@ -5,6 +5,7 @@
 
 mod batch;
 mod checking;
+mod control;
 mod handing_out;
 mod iscsi_target;
 mod keeping;
@@ -13,6 +14,7 @@ mod library_tapes;
 mod notice;
 mod places;
 mod record_source;
+mod recording;
 mod saved_library;
 mod secrets_file;
 mod served_lines;
@@ -24,8 +26,10 @@ mod socket_file;
 mod unwritten_teller;
 
 pub use checking::check_serving;
+pub use control::ControlSocket;
 pub use laws::{fault_rows, worked_rows};
 pub use library_service::LibraryService;
+pub use recording::RecordSink;
 pub use saved_library::{FolderInventory, FolderKeeper};
 pub use server_fault::{ServerFault, earlier};
 pub use serving::{ServiceMeans, serve_library};

@@ -2,6 +2,7 @@
 
 use crate::iscsi_target::PortalTarget;
 use crate::notice::{at_each, plural};
+use command_line::RecordFileOptions;
 use iscsi_login::{Authentication, ChapDigests};
 use library_inventory::{Element, PlacedVolume, StartProfile, name_of_tag};
 use media_folder::{PlannedFolder, PlannedImage, PlannedVolume};
@@ -16,18 +17,21 @@ use tape_medium::VolumeTag;
 #[derive(Clone, Copy)]
 pub(crate) struct ServedPlaces<'a> {
     pub socket: &'a Option<String>,
+    pub control: &'a Option<String>,
     pub made: &'a PortalTarget,
     pub until: ServeUntil,
 }
 
 /// How a library would be served.
 #[derive(Clone, Copy)]
-pub(crate) struct ServedTerms {
+pub(crate) struct ServedTerms<'a> {
     pub volume_size: u64,
     /// How many bytes of memory all volumes may take, if there is a limit.
     pub memory: Option<u64>,
     pub drain: bool,
     pub audit: Audit,
+    /// The file into which records would be written, if there is one.
+    pub record_file: &'a Option<RecordFileOptions>,
     pub times: ServeTimes,
 }
 
@@ -36,7 +40,7 @@ pub(crate) fn write_served<W: Write>(
     out: &mut W,
     places: &ServedPlaces<'_>,
     library: &PlannedFolder,
-    terms: &ServedTerms,
+    terms: &ServedTerms<'_>,
 ) -> io::Result<()> {
     write_places(out, places, library.size.drives)?;
     write_profile(out, library.profile)?;
@@ -71,7 +75,11 @@ fn write_places<W: Write>(out: &mut W, places: &ServedPlaces<'_>, drives: u8) ->
     let workers = places.until.workers();
     let more = plural(workers);
     let at_each = at_each(count);
-    writeln!(out, ": {units} units, {workers} worker{more}{at_each}")
+    writeln!(out, ": {units} units, {workers} worker{more}{at_each}")?;
+    match places.control {
+        Some(path) => writeln!(out, "status: at {path}"),
+        None => Ok(()),
+    }
 }
 
 /// Writes how units would answer, and the number of a library that has one. One that a start draws isn't known before.
@@ -90,7 +98,7 @@ fn write_profile<W: Write>(out: &mut W, profile: StartProfile) -> io::Result<()>
 fn write_library<W: Write>(
     out: &mut W,
     library: &PlannedFolder,
-    terms: &ServedTerms,
+    terms: &ServedTerms<'_>,
 ) -> io::Result<()> {
     let size = library.size;
     let (drives, slots, portals) = (size.drives, size.slots, size.import_exports);
@@ -189,7 +197,20 @@ fn write_authentication<W: Write>(out: &mut W, by: &Authentication) -> io::Resul
     }
 }
 
-fn write_terms<W: Write>(out: &mut W, terms: &ServedTerms) -> io::Result<()> {
+fn write_terms<W: Write>(out: &mut W, terms: &ServedTerms<'_>) -> io::Result<()> {
+    match terms.record_file {
+        Some(file) => {
+            let path = file.path.as_str();
+            let format = file.format.text();
+            writeln!(out, "records: into {path}, as {format}")?;
+        }
+        None => write_printed(out, terms)?,
+    }
+    write_times(out, terms.times)
+}
+
+/// Writes when records would be printed.
+fn write_printed<W: Write>(out: &mut W, terms: &ServedTerms<'_>) -> io::Result<()> {
     let when = if terms.drain {
         "while it serves"
     } else {
@@ -199,8 +220,10 @@ fn write_terms<W: Write>(out: &mut W, terms: &ServedTerms) -> io::Result<()> {
         Audit::Spans => ", with reservations",
         Audit::Lines | Audit::Off => "",
     };
-    writeln!(out, "records: {when}{spans}")?;
-    let times = terms.times;
+    writeln!(out, "records: {when}{spans}")
+}
+
+fn write_times<W: Write>(out: &mut W, times: ServeTimes) -> io::Result<()> {
     let grace = times.grace.as_secs();
     writeln!(out, "grace: {grace} seconds")?;
     write_time(out, "login-timeout", times.login)?;

@@ -13,10 +13,12 @@ ghost use Rattle.library_server.specs.ServedSeats.{SeatsCome};
 ghost use Rattle.library_server.specs.declared.server_fault.ServerFault.TheVariants as fault;
 
 use crate::batch::Batch;
+use crate::control::ControlSocket;
 use crate::handing_out::hand_out_as_asked;
 use crate::keeping::keep_at_the_end;
 use crate::library_tapes::LibraryTapes;
 use crate::record_source::RecordSource;
+use crate::recording::{RecordSink, record_the_rest, record_while_served};
 use crate::saved_library::FolderKeeper;
 use crate::server_fault::{ServerFault, closing_fault, earlier, own_fault, told_of};
 use crate::unwritten_teller::UnwrittenTeller;
@@ -51,6 +53,10 @@ pub struct ServiceMeans<'a, 'f, R: Wait, E: Write> {
     pub records: RecordOutput,
     /// None if the tapes are gone with the library.
     pub keeper: Option<&'a FolderKeeper<'f>>,
+    /// The file into which records are written, if they are.
+    pub sink: Option<&'a RecordSink<'f>>,
+    /// Where the library's status is asked for. None if nowhere.
+    pub control: Option<&'a ControlSocket>,
     pub teller: &'a Teller<E>,
 }
 
@@ -132,16 +138,93 @@ fn serve_with_ledgers<
     };
     let mut batch = Batch::new(alloc);
     let served = serve_kept(means, &library, &mut seats, acceptor, &mut batch, writer)?;
-    let left = write_rest(means, batch, writer);
+    let left = write_rest(means, &library, batch, writer);
     let audit = means.records.of_the_rest();
     let listener = UnwrittenTeller { rt, teller };
     let closed = close_and_write(rt, alloc, library, seats, audit, writer, &listener);
     told_of(earlier(served, earlier(left, closing_fault(closed))))
 }
 
+/// Serves sessions with a worker at each seat, while the keeper of the library's tapes, if it has one, keeps them, and its status is told
+/// where it is asked for. Then the seats are back. The fault of a session, or of a library of which not all is kept.
+fn serve_kept<
+    B: Ledgers + Send + Sync,
+    R: Clock + PollSource + RandomSource + Threads + Wait + Sync,
+    E: Write + Send,
+    W: Write + Send,
+>(
+    means: &ServiceMeans<'_, '_, R, E>,
+    library: &Library<B, Device, Pass>,
+    seats: &mut Vec<Seat<B>>,
+    acceptor: &Acceptor<'_>,
+    batch: &mut Batch,
+    writer: &mut W,
+) -> Result<Option<ServerFault>, AllocError>
+    ensures lines { WritesOut means.now.records (W.contents writer.old) (W.contents writer.new) (left_in batch.old) (left_in batch.new) }
+    ensures served { OnOk result (SeatsCome library.now.units seats.old.items seats.new.items) }
+    ensures fault { IfOk result (λ fault. IfSome fault (MayTell acceptor.now.limits.term)) }
+{
+    match means.control {
+        Some(control) => serve_and_show(means, control, library, seats, acceptor, batch, writer),
+        None => serve_with_tapes(means, library, seats, acceptor, batch, writer),
+    }
+}
+
+/// The same with a control socket, at which a thread of its own sends the library's status.
+fn serve_and_show<
+    B: Ledgers + Send + Sync,
+    R: Clock + PollSource + RandomSource + Threads + Wait + Sync,
+    E: Write + Send,
+    W: Write + Send,
+>(
+    means: &ServiceMeans<'_, '_, R, E>,
+    control: &ControlSocket,
+    library: &Library<B, Device, Pass>,
+    seats: &mut Vec<Seat<B>>,
+    acceptor: &Acceptor<'_>,
+    batch: &mut Batch,
+    writer: &mut W,
+) -> Result<Option<ServerFault>, AllocError>
+    ensures lines { WritesOut means.now.records (W.contents writer.old) (W.contents writer.new) (left_in batch.old) (left_in batch.new) }
+    ensures served { OnOk result (SeatsCome library.now.units seats.old.items seats.new.items) }
+    ensures fault { IfOk result (λ fault. IfSome fault (MayTell acceptor.now.limits.term)) }
+{
+    let (rt, alloc, teller) = (means.rt, means.alloc, means.teller);
+    let ((), served) = thread::join_mut(
+        rt,
+        &mut || control.answer_all(rt, alloc, library, teller),
+        &mut || serve_and_shut(means, control, library, seats, acceptor, batch, writer),
+    );
+    served
+}
+
+/// Serves sessions, and shuts the control socket down once the last has ended.
+fn serve_and_shut<
+    B: Ledgers + Send + Sync,
+    R: Clock + PollSource + RandomSource + Threads + Wait + Sync,
+    E: Write + Send,
+    W: Write + Send,
+>(
+    means: &ServiceMeans<'_, '_, R, E>,
+    control: &ControlSocket,
+    library: &Library<B, Device, Pass>,
+    seats: &mut Vec<Seat<B>>,
+    acceptor: &Acceptor<'_>,
+    batch: &mut Batch,
+    writer: &mut W,
+) -> Result<Option<ServerFault>, AllocError>
+    ensures lines { WritesOut means.now.records (W.contents writer.old) (W.contents writer.new) (left_in batch.old) (left_in batch.new) }
+    ensures served { OnOk result (SeatsCome library.now.units seats.old.items seats.new.items) }
+    ensures fault { IfOk result (λ fault. IfSome fault (MayTell acceptor.now.limits.term)) }
+{
+    let served = serve_with_tapes(means, library, seats, acceptor, batch, writer);
+    control.shut_down();
+    served
+}
+
 /// Serves sessions with a worker at each seat, while the keeper of the library's tapes, if it has one, keeps them. Then the seats are back. The
 /// fault of a session, or of a library of which not all is kept.
-fn serve_kept<
+fn serve_with_tapes<
     B: Ledgers + Send + Sync,
     R: Clock + PollSource + RandomSource + Threads + Wait + Sync,
     E: Write + Send,
@@ -256,7 +339,10 @@ fn serve_services<
 {
     let (rt, alloc, teller) = (means.rt, means.alloc, means.teller);
     match means.records {
-        RecordOutput::AtTheEnd(_) => serve_all(rt, alloc, services, keeper, acceptor, None, teller),
+        RecordOutput::AtTheEnd(_) => match means.sink {
+            None => serve_all(rt, alloc, services, keeper, acceptor, None, teller),
+            Some(sink) => serve_and_record(means, services, keeper, units, acceptor, sink),
+        },
         RecordOutput::AsTheyCome => serve_and_write(
             means, services, keeper, units, acceptor, batch, writer,
         ),
@@ -302,9 +388,47 @@ fn serve_and_write<
     served
 }
 
-/// Writes the lines that are left of the records that were taken last, where some were, or tells which have none.
-fn write_rest<R: Wait, E: Write, W: Write>(
+/// Serves sessions with a worker at each service, while a thread of its own writes their records into a file.
+fn serve_and_record<
+    S: SeatService + Send,
+    K: TapeKeeper + Sync,
+    D: RecordSource + Sync,
+    R: Clock + PollSource + RandomSource + Threads + Wait + Sync,
+    E: Write + Send,
+>(
     means: &ServiceMeans<'_, '_, R, E>,
+    services: &mut Vec<S>,
+    keeper: &K,
+    units: &D,
+    acceptor: &Acceptor<'_>,
+    sink: &RecordSink<'_>,
+) -> Result<Option<FaultySession>, AllocError>
+    ensures { OnOk result (AllZip (ComesBySessions S.notes S.settles S.count) services.old.items services.new.items) }
+{
+    let (rt, alloc, teller) = (means.rt, means.alloc, means.teller);
+    let alloc_of_workers = alloc;
+    let drain = RecordDrain::new();
+    let ((), served) = thread::join_mut(
+        rt,
+        &mut || record_while_served(&drain, rt, alloc, units, sink, teller),
+        &mut || serve_and_end(
+            rt,
+            alloc_of_workers,
+            services,
+            keeper,
+            acceptor,
+            &drain,
+            teller,
+        ),
+    );
+    served
+}
+
+/// Writes the lines that are left of the records that were taken last, where some were, or tells which have none; and those of all records
+/// that are left, where they are written into a file.
+fn write_rest<D: RecordSource, R: Clock + Wait, E: Write, W: Write>(
+    means: &ServiceMeans<'_, '_, R, E>,
+    library: &D,
     batch: Batch,
     writer: &mut W,
 ) -> Option<ServerFault>
@@ -312,7 +436,10 @@ fn write_rest<R: Wait, E: Write, W: Write>(
     ensures fault { IfSome result (λ f. (f ≡ fault.Write) ⊎ (f ≡ fault.NoMemory)) }
 {
     match means.records {
-        RecordOutput::AtTheEnd(_) => None,
+        RecordOutput::AtTheEnd(_) => match means.sink {
+            None => None,
+            Some(sink) => record_the_rest(means.rt, means.alloc, library, sink, means.teller),
+        },
         RecordOutput::AsTheyCome => write_batch(means, batch, writer),
     }
 }

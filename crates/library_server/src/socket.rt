@@ -7,13 +7,16 @@ ghost use Rattle.program_options.specs.ServeUntil.{workers_of};
 ghost use Rattle.library_server.specs.Places.{count_of};
 ghost use Rattle.library_server.specs.Serving.{telling_of, term_of};
 
+use crate::control::ControlSocket;
 use crate::iscsi_target::{PortalTarget, target_of};
 use crate::notice::{Notice, tell};
 use crate::places::{Places, open_places};
+use crate::recording::{RecordSink, sink_of};
 use crate::saved_library::{FolderKeeper, SavedLibrary, saved_library};
 use crate::server_fault::ServerFault;
 use crate::serving::{ServiceMeans, serve_library};
 use crate::socket_fault::SocketFault;
+use crate::socket_file::{SocketFile, make_control_file};
 use command_line::ServeOptions;
 use library_start::{Device, library_within};
 use output_lines::{Audit, RecordOutput};
@@ -64,20 +67,28 @@ pub fn serve<
 {
     let ServeOptions {
         socket,
+        control,
         iscsi,
         media,
         memory,
         until,
         drain,
+        record_file,
         times,
         log,
     } = serving;
     let made = target_of(rt, iscsi)?;
+    let sink = sink_of(rt.alloc(), files, record_file, &made.target.access.hosts)?;
     let service = ServiceOptions {
         until,
         times,
         terms: terms_of(&made, until),
-        records: RecordOutput::new(drain, audit),
+        records: if sink.is_some() {
+            RecordOutput::AtTheEnd(Audit::Off)
+        } else {
+            RecordOutput::new(drain, audit)
+        },
+        sink: sink.as_ref(),
         telling: telling_of(log),
     };
     let memory = memory_limit(rt.alloc(), memory)?;
@@ -86,11 +97,21 @@ pub fn serve<
             let size = options.volume_size;
             let kept = saved_library(rt.alloc(), files, media, size, &memory, errors)?;
             let SavedLibrary { core, keeper } = kept;
-            serve_at(rt, core, Some(&keeper), socket, &made, service, errors)
+            let places = ServedAt {
+                socket,
+                control,
+                made: &made,
+            };
+            serve_at(rt, core, Some(&keeper), places, service, errors)
         }
         None => {
             let core = library_within(rt.alloc(), &options, profile, &memory)?;
-            serve_at(rt, core, None, socket, &made, service, errors)
+            let places = ServedAt {
+                socket,
+                control,
+                made: &made,
+            };
+            serve_at(rt, core, None, places, service, errors)
         }
     }
 }
@@ -105,13 +126,25 @@ pub(crate) fn memory_limit(alloc: Global, memory: Option<u64>) -> Result<MemoryL
 
 /// How a library is served wherever that is.
 #[derive(Clone, Copy)]
-struct ServiceOptions {
+struct ServiceOptions<'a, 'f> {
     until: ServeUntil,
     times: ServeTimes,
     /// On which initiators of iSCSI are let in, where they may come.
     terms: Option<LoginTerms>,
     records: RecordOutput,
+    /// The file into which records are written, if they are.
+    sink: Option<&'a RecordSink<'f>>,
     telling: Telling,
+}
+
+/// Where a library is served, and where its status is asked for.
+#[derive(Drop)]
+struct ServedAt<'a> {
+    /// The path of the socket's file, if there is to be one.
+    socket: Option<String>,
+    /// The same of the control socket.
+    control: Option<String>,
+    made: &'a PortalTarget,
 }
 
 /// On which terms initiators are let in at the portals of a target, if it has some.
@@ -128,6 +161,7 @@ fn terms_of(made: &PortalTarget, until: ServeUntil) -> Option<LoginTerms> {
 
 /// Serves a library at a socket, at portals or at both, and tells before where they are.
 fn serve_at<
+    'f,
     R: AllocGlobal
         + Clock
         + Files
@@ -142,28 +176,77 @@ fn serve_at<
 >(
     rt: &R,
     core: TargetCore<Device>,
-    keeper: Option<&FolderKeeper<'_>>,
-    socket: Option<String>,
-    made: &PortalTarget,
-    service: ServiceOptions,
+    keeper: Option<&FolderKeeper<'f>>,
+    at: ServedAt<'_>,
+    service: ServiceOptions<'_, 'f>,
     errors: &mut E,
 ) -> Result<(), SocketFault>
     requires some { 1 ≤ workers_of service.until }
-    requires some_places { 0 < vec_len made.now.portals + count_of socket }
-    requires few_places { vec_len made.now.portals + count_of socket ≤ 5 }
+    requires some_places { 0 < vec_len at.made.now.portals + count_of at.socket }
+    requires few_places { vec_len at.made.now.portals + count_of at.socket ≤ 5 }
 {
-    let places = open_places(rt, &made.portals, &made.target, socket, errors)?;
+    let ServedAt {
+        socket,
+        control,
+        made,
+    } = at;
+    let control = open_control(rt, control, errors)?;
+    let opened = open_places(rt, &made.portals, &made.target, socket, errors);
+    let places = match opened {
+        Ok(places) => places,
+        Err(fault) => {
+            leave_control(rt, &control);
+            return Err(fault);
+        }
+    };
     let units = core.all().len();
     let served = match tell_places(rt.alloc(), &places, units, service.until, errors) {
         Ok(()) => {
             let teller = Teller::new(service.telling, errors);
-            serve_until(rt, core, keeper, &places, service, &teller).map_err(SocketFault::from)
+            let asked = match &control {
+                Some((_, socket)) => Some(socket),
+                None => None,
+            };
+            let kept = KeptAt {
+                keeper,
+                control: asked,
+                places: &places,
+            };
+            serve_until(rt, core, kept, service, &teller).map_err(SocketFault::from)
         }
         Err(error) => Err(SocketFault::from(error)),
     };
     // What the sessions came to is told in any case.
     places.leave(rt);
+    leave_control(rt, &control);
     served
+}
+
+/// Where the library's status is asked for, if somewhere.
+fn open_control<R: AllocGlobal + Files + Net, E: Write>(
+    rt: &R,
+    path: Option<String>,
+    errors: &mut E,
+) -> Result<Option<(SocketFile, ControlSocket)>, SocketFault> {
+    match path {
+        Some(path) => Ok(Some(make_control_file(rt, path, errors)?)),
+        None => Ok(None),
+    }
+}
+
+/// Removes the file of the control socket, if there is one and it is still its own.
+fn leave_control<R: Files>(rt: &R, control: &Option<(SocketFile, ControlSocket)>) {
+    if let Some((file, _)) = control {
+        file.leave(rt);
+    }
+}
+
+/// What keeps a library's tapes, where its status is asked for, and where it is served.
+#[derive(Clone, Copy)]
+struct KeptAt<'a, 'f, 'd> {
+    keeper: Option<&'a FolderKeeper<'f>>,
+    control: Option<&'a ControlSocket>,
+    places: &'a Places<'d>,
 }
 
 /// What is told of sessions.
@@ -198,6 +281,7 @@ fn tell_places<E: Write>(
 
 /// Serves a target for a term, in a second thread: this one waits for the end of standard input, where that ends the term.
 fn serve_until<
+    'f,
     R: AllocGlobal
         + Clock
         + Files
@@ -212,19 +296,24 @@ fn serve_until<
 >(
     rt: &R,
     core: TargetCore<Device>,
-    keeper: Option<&FolderKeeper<'_>>,
-    places: &Places<'_>,
-    service: ServiceOptions,
+    kept: KeptAt<'_, 'f, '_>,
+    service: ServiceOptions<'_, 'f>,
     teller: &Teller<E>,
 ) -> Result<(), ServerFault>
     requires some { 1 ≤ workers_of service.until }
-    requires doors { (0 < vec_len places.now.doors) × (vec_len places.now.doors ≤ 5) }
+    requires doors { (0 < vec_len kept.places.now.doors) × (vec_len kept.places.now.doors ≤ 5) }
 {
+    let KeptAt {
+        keeper,
+        control,
+        places,
+    } = kept;
     let ServiceOptions {
         until,
         times,
         terms,
         records,
+        sink,
         telling: _,
     } = service;
     let sessions = LiveSessions::new(rt.alloc(), terms);
@@ -241,6 +330,8 @@ fn serve_until<
                 alloc: rt.alloc(),
                 records,
                 keeper,
+                sink,
+                control,
                 teller,
             };
             serve_library(&means, core, &places.doors, limits, &mut writer)

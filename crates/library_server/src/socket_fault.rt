@@ -5,6 +5,7 @@ use crate::server_fault::ServerFault;
 use iscsi_chap::LineFault;
 use media_folder::FolderFault;
 use program_options::ListenFault;
+use record_file::FileFault;
 use std::alloc::AllocError;
 use std::fmt;
 use std::io::ErrorKind;
@@ -23,6 +24,8 @@ pub enum SocketFault {
     BadSecrets(String, usize, LineFault),
     /// The library's folder isn't one that can be served.
     Folder(#[from] FolderFault),
+    /// Records can't be written into their file.
+    Records(FileFault),
     Server(#[from] ServerFault),
     /// The lines of what would be served can't be written.
     Lines,
@@ -45,7 +48,7 @@ impl SocketFault {
     {
         match self {
             SocketFault::Listen(fault) => fault.status(),
-            SocketFault::CannotRead(_) | SocketFault::Lines => 4,
+            SocketFault::CannotRead(_) | SocketFault::Records(_) | SocketFault::Lines => 4,
             SocketFault::OpenSecrets(_) | SocketFault::BadSecrets(_, _, _) => 2,
             SocketFault::Folder(fault) => fault.status(),
             SocketFault::Server(fault) => fault.status(),
@@ -73,6 +76,7 @@ impl fmt::Display for SocketFault {
                 write!(f, "vtl: {path}, line {number}: {words}")
             }
             SocketFault::Folder(fault) => write!(f, "{fault}"),
+            SocketFault::Records(fault) => write!(f, "{fault}"),
             SocketFault::Server(fault) => write!(f, "{fault}"),
             SocketFault::Lines => f.write_str(
                 "vtl: device fault\nvtl: the lines of what would be served could not be written",
@@ -92,6 +96,12 @@ fn line_words(fault: LineFault) -> &'static str
         LineFault::SecretLength => "a secret has 12 to 128 bytes",
         LineFault::SameSecret => "the target has the host's secret: give it another",
         LineFault::UserTwice => "the host has a line with this user already",
+    }
+}
+
+impl From<FileFault> for SocketFault {
+    fn from(fault: FileFault) -> SocketFault {
+        SocketFault::Records(fault)
     }
 }
 

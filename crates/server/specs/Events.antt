@@ -26,6 +26,7 @@ is_detail (event.NoSlot nexus lun) = true
 is_detail event.Kept = false
 is_detail event.CaughtUp = false
 is_detail (event.Unwritten r) = false
+is_detail event.StatusUnsent = false
 
 abbrev pub end_words : Option End → List ℕ
 end_words (Some end.Logout) = codes "ended by its LOGOUT"
@@ -60,3 +61,4 @@ event_text (event.NoSlot nexus lun) =
 event_text event.Kept = codes "vtl: lines of records could not be written, and are kept"
 event_text event.CaughtUp = codes "vtl: the lines of records that were kept are written"
 event_text (event.Unwritten r) = codes "vtl: " ++ unwritten_text r
+event_text event.StatusUnsent = codes "vtl: the status could not be sent, or was not taken in time"

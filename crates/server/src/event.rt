@@ -62,6 +62,8 @@ pub enum Event {
     CaughtUp,
     /// Lines that never were written.
     Unwritten(UnwrittenRecords),
+    /// Who asked for the status of the library didn't get all of it.
+    StatusUnsent,
 }
 
 impl Event {
@@ -82,7 +84,8 @@ impl Event {
             | Event::NotAccepted
             | Event::Kept
             | Event::CaughtUp
-            | Event::Unwritten(_) => false,
+            | Event::Unwritten(_)
+            | Event::StatusUnsent => false,
         }
     }
 }
@@ -143,6 +146,9 @@ impl fmt::Display for Event {
                 f.write_str("vtl: the lines of records that were kept are written")
             }
             Event::Unwritten(records) => write!(f, "vtl: {records}"),
+            Event::StatusUnsent => {
+                f.write_str("vtl: the status could not be sent, or was not taken in time")
+            }
         }
     }
 }

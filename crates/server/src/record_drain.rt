@@ -3,6 +3,7 @@
 use crate::handed_out::HandedOut;
 use std::sync::atomic::{AtomicBool, Ordering};
 use std::sync::{Condvar, Mutex, Wait};
+use std::time::{Clock, Duration};
 use tickets::RecordTicket;
 
 /// A unit with so many records hands them out within a session.
@@ -11,6 +12,9 @@ const MANY: u64 = 4096;
 /// Where a unit has so many, its hosts wait for the thread that writes. With what eight sessions may leave in addition, they are
 /// fewer than 8,192: a trail's room is doubled as it grows, and needn't be doubled again.
 const MOST: u64 = 6144;
+
+/// After so many seconds records that are written into a file are taken again.
+const SECONDS: u64 = 1;
 
 /// What the thread that writes is at.
 #[derive(Clone, Copy)]
@@ -145,6 +149,25 @@ impl RecordDrain {
             Phase::Absent
         };
         is_due
+    }
+
+    /// Waits until records are to be handed out, a second has passed, or no worker will ask any more. Whether they are to be taken.
+    pub fn await_second<R: Clock + Wait>(&self, rt: &R) -> bool {
+        let mut state = self.state.lock(rt);
+        state.phase = Phase::Waiting;
+        self.went_on.notify_all();
+        let pause = Duration::from_secs(SECONDS);
+        let (mut state, _) = self
+            .asked
+            .wait_timeout_while(rt, state, pause, |state| !state.is_due && !state.is_over);
+        let is_turn = state.is_due || !state.is_over;
+        state.is_due = false;
+        state.phase = if is_turn {
+            Phase::Writing
+        } else {
+            Phase::Absent
+        };
+        is_turn
     }
 
     /// Notes whether lines can't be written now. Whether they couldn't the last time.

@@ -4,9 +4,12 @@
 
 mod client;
 mod client_fault;
+mod explaining;
 mod laws;
 mod program;
 mod program_fault;
+mod status;
+mod status_fault;
 
 use std::process::ExitCode;
 

@@ -5,7 +5,9 @@ ghost use Rattle.given_options.specs.Ranges.{AreGiven};
 ghost use Rattle.vtl.specs.Faults.{ending_line, ending_status};
 
 use crate::client::client;
+use crate::explaining::explain;
 use crate::program_fault::ProgramFault;
+use crate::status::print_status;
 use command_line::{Asked, CommandLineFault, ServeLine, Task, asked_of, serve_task};
 use configuration_file::read_configuration;
 use library_server::{check_serving, serve};
@@ -104,9 +106,11 @@ fn perform<
             Ok(check_serving(files, options, profile, serving, audit, &mut out, errors)?)
         }
         Task::Client(host, explanations) => Ok(client(rt, host, explanations)?),
+        Task::Status(options) => Ok(print_status(rt, options)?),
         Task::Cells(profile, class) => {
             write_cells(&mut io::writer(rt), profile, class).map_err(|_| ProgramFault::Cells)
         }
+        Task::Explain(file) => Ok(explain(rt, file, errors)?),
         Task::CheckMedia(folder) => { Ok(check_folder(rt, folder, &mut io::writer(rt), errors)?) }
     }
 }

@@ -1,9 +1,11 @@
 use crate::client_fault::ClientFault;
+use crate::status_fault::StatusFault;
 use command_line::CommandLineFault;
 use configuration_file::ConfigurationFault;
 use given_options::OptionRule;
 use library_server::SocketFault;
 use media_folder::CheckFault;
+use record_words::ExplainFault;
 use replay::ReplayFault;
 use std::alloc::AllocError;
 use std::fmt;
@@ -20,10 +22,13 @@ pub enum ProgramFault {
     Replay(#[from] ReplayFault),
     Serve(#[from] SocketFault),
     Client(#[from] ClientFault),
+    Status(#[from] StatusFault),
     /// The permission table couldn't be written, or not all of it.
     Cells,
     /// A folder that was looked over isn't well.
     Check(#[from] CheckFault),
+    /// Not all lines of records are said in words.
+    Explain(#[from] ExplainFault),
 }
 
 impl ProgramFault {
@@ -42,8 +47,10 @@ impl ProgramFault {
             ProgramFault::Replay(fault) => fault.status(),
             ProgramFault::Serve(fault) => fault.status(),
             ProgramFault::Client(fault) => fault.status(),
+            ProgramFault::Status(fault) => fault.status(),
             ProgramFault::Cells => 4,
             ProgramFault::Check(fault) => fault.status(),
+            ProgramFault::Explain(fault) => fault.status(),
         }
     }
 }
@@ -61,10 +68,12 @@ impl fmt::Display for ProgramFault {
             ProgramFault::Replay(fault) => write!(f, "{fault}"),
             ProgramFault::Serve(fault) => write!(f, "{fault}"),
             ProgramFault::Client(fault) => write!(f, "{fault}"),
+            ProgramFault::Status(fault) => write!(f, "{fault}"),
             ProgramFault::Cells => {
                 f.write_str("vtl: device fault\nvtl: the permission table could not be written")
             }
             ProgramFault::Check(fault) => write!(f, "{fault}"),
+            ProgramFault::Explain(fault) => write!(f, "{fault}"),
         }
     }
 }
