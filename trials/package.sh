@@ -95,7 +95,7 @@ say "the service that was started by hand: its end, its tapes and its records"
 stop_by_hand
 ls -l "$root/var/lib/vtl"
 in_root "$root" vtl media check /var/lib/vtl
-wc -l "$root/var/log/vtl/records"
+in_root "$root" vtl explain /var/log/vtl/records.json | tail -3
 
 say "what came of it"
 look_at_guest

@@ -68,6 +68,15 @@ write_tape 1
 read_tape
 log_out
 
+say "how it stands, and its records"
+vtl status
+grep -c '"class":"WRITE(6)"' /var/log/vtl/records.json
+vtl explain /var/log/vtl/records.json | tail -3
+mv /var/log/vtl/records.json /var/log/vtl/records.json.1
+log_in 127.0.0.1:3260
+until [ -s /var/log/vtl/records.json ]; do sleep 0.2; done
+log_out
+
 say "an upgrade"
 before=$(sha256sum $tapes/VOL00001.tap)
 started=$(systemctl show -p MainPID vtl.service)
