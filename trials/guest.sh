@@ -1,6 +1,6 @@
 # shellcheck shell=sh disable=SC2154
 # For trials that a Linux guest runs, read by them with `.`: a Debian that debootstrap makes, and a guest of it in an emulator. They set `work`,
-# a folder of their own, and `kept`, where the packed root is kept for the next run.
+# a folder of their own, `kept`, where the packed root is kept for the next run, and `trials`, this folder.
 
 say() {
     echo "== $*"
@@ -28,6 +28,7 @@ make_roots() {
 # Has a guest with a root do what a script says, and shows what it prints. 10.0.2.2 is this machine there.
 run_guest() {
     cp "$2" "$1/root/guest.sh"
+    cp "$trials/in_guest.sh" "$1/root/in_guest.sh"
     cat >"$1/etc/systemd/system/trial.service" <<'END'
 [Unit]
 After=multi-user.target

@@ -2,61 +2,8 @@
 # What the guest of trials/programs.sh does, as root: it logs in at two libraries for hosts, and uses them by programs of Debian that know nothing
 # of this one. What a program prints is shown, and what it has to say is looked for.
 set -u
-failed=0
-
-say() {
-    echo "guest: $*"
-}
-
-# Runs a command, shows what it prints, and looks for each line that standard input has, as it stands.
-see() {
-    wanted=$(cat)
-    echo "guest> $*"
-    "$@" >/root/got 2>&1
-    status=$?
-    cat /root/got
-    [ $status = 0 ] || { say "status $status of: $*"; failed=1; }
-    echo "$wanted" | while IFS= read -r line; do
-        [ -z "$line" ] || grep -qF -- "$line" /root/got || say "not there: $line"
-    done >/root/missing
-    [ ! -s /root/missing ] || { cat /root/missing; failed=1; }
-}
-
-# The same of a program that ends with a status of its own, as it asks for what few units have.
-see_any() {
-    status_wanted=$1
-    shift
-    echo "guest> $*"
-    "$@" >/root/got 2>&1
-    status=$?
-    cat /root/got
-    [ $status = "$status_wanted" ] || { say "status $status of: $*"; failed=1; }
-    while IFS= read -r line; do
-        grep -qF -- "$line" /root/got || say "not there: $line"
-    done >/root/missing
-    [ ! -s /root/missing ] || { cat /root/missing; failed=1; }
-}
-
-# The same of a command that has to fail.
-see_failing() {
-    wanted=$(cat)
-    echo "guest> $*"
-    "$@" >/root/got 2>&1 && { say "it didn't fail: $*"; failed=1; }
-    cat /root/got
-    [ -z "$wanted" ] || grep -qF -- "$wanted" /root/got || { say "not there: $wanted"; failed=1; }
-}
-
-log_in() {
-    iscsiadm -m discovery -t sendtargets -p "$1"
-    iscsiadm -m node -p "$1" --login
-}
-
-# The SCSI generic device of the changer, or of drive N, of the library with a number.
-generic_of() {
-    for each in /dev/sg*; do
-        sg_inq --page=sn "$each" 2>/dev/null | grep -q "$1" && echo "$each"
-    done
-}
+# shellcheck source=trials/in_guest.sh
+. /root/in_guest.sh
 
 modprobe sg
 modprobe st
@@ -76,10 +23,7 @@ say "changer $changer, drive $drive, the other changer $other"
 for each in "$changer" "$drive" "$other"; do
     for _ in 1 2 3 4; do sg_turs "$each" >/dev/null 2>&1 || true; done
 done
-tape=
-for each in /dev/nst[0-9]; do
-    [ "$(cat /sys/class/scsi_tape/"${each#/dev/}"/device/vpd_pg80 2>/dev/null | tr -d '\0' | grep -c 1A2B3C4D01)" = 0 ] || tape=$each
-done
+tape=$(tape_of 1A2B3C4D01)
 say "tape $tape"
 
 see lsscsi -g -u </dev/null
@@ -185,6 +129,11 @@ see mtx -f "$changer" status <<'END'
 Data Transfer Element 0:Empty
 Storage Element 1:Full :VolumeTag=VOL00001
 Storage Element 2:Full :VolumeTag=VOL00002
+END
+see mtx -f "$changer" exchange 1 2 </dev/null
+see mtx -f "$changer" status <<'END'
+Storage Element 1:Full :VolumeTag=VOL00002
+Storage Element 2:Full :VolumeTag=VOL00001
 END
 iscsiadm -m node --logout
 [ $failed = 0 ] && say "all is as it should be"
