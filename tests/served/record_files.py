@@ -314,6 +314,8 @@ def explained_garbage(tried: Tried) -> None:
         (first.replace('"02"', '"ff"').encode(), "no record has such a value at status"),
         (first.replace(POWER_ON, "70").encode(), "no record has such a value at sense"),
         (first.replace('"TEST-UNIT-READY"', "null").encode(), "no record has such a value at class"),
+        # What a terminal would obey.
+        (first.replace('"TEST-UNIT-READY"', '"\\u001b[2J"').encode(), "no record has such a value at class"),
         (b"[" * 100_000 + b"\n", "it is longer than the line of any record"),
         (second[:40].encode(), "it does not end in a line feed"),
     ]

@@ -3,7 +3,7 @@
 use crate::line_fault::LineFault;
 use serde_json::Value;
 
-/// A text, or null.
+/// A text of graphic ASCII, or null.
 pub(crate) fn text_at<'a>(
     object: &'a Value,
     key: &'static str,
@@ -15,8 +15,11 @@ pub(crate) fn text_at<'a>(
                 return Ok(None);
             }
             match value.as_str() {
-                Some(text) => Ok(Some(text)),
-                None => Err(LineFault::BadValue(key)),
+                // What is said goes to a terminal, which obeys some other characters.
+                Some(text) if text.as_bytes().iter().all(|byte| byte.is_ascii_graphic()) => {
+                    Ok(Some(text))
+                }
+                Some(_) | None => Err(LineFault::BadValue(key)),
             }
         }
     }
