@@ -2,6 +2,7 @@
 import json
 import os
 import pathlib
+import re
 import socket
 import stat
 import subprocess
@@ -45,8 +46,19 @@ def drive(volume: dict[str, typing.Any] | None, **state: typing.Any) -> dict[str
 
 
 def line_of(*units: dict[str, typing.Any]) -> str:
-    """The line of JSON of a library with these units."""
+    """The line of JSON of a library with these units, without its sessions."""
     return json.dumps({"version": 1, "profile": "spec", "units": units}, separators=(",", ":")) + "\n"
+
+
+def without_sessions(line: str) -> str:
+    """A line of JSON without the sessions that go on, which have a time."""
+    units, _, sessions = line.rpartition(',"sessions":')
+    same("whether sessions are told last", (isinstance(json.loads("{\"sessions\":" + sessions)["sessions"], list), line[-2:]), (True, "}\n"))
+    return units + "}\n"
+
+
+def without_drawn_sessions(picture: str) -> str:
+    return re.sub(r"\n\nSession .*", "\n", picture, flags=re.DOTALL)
 
 
 def at_power_on() -> str:
@@ -58,7 +70,9 @@ def status(tried: Tried, path: str, *words: str) -> tuple[int, str, str]:
 
 
 def says(tried: Tried, path: str, wanted: str) -> None:
-    same("the status of the library", status(tried, path, "--json"), (0, wanted, ""))
+    ended, printed, reported = status(tried, path, "--json")
+    same("the status, and what is reported", (ended, reported), (0, ""))
+    same("the status of the library", without_sessions(printed), wanted)
 
 
 def told(tried: Tried) -> None:
@@ -91,6 +105,44 @@ def told(tried: Tried) -> None:
         server.end()
         server.ends()
     same("the control socket after the end", os.path.lexists(path), False)
+
+
+def sessions_of(tried: Tried, path: str) -> list[dict[str, typing.Any]]:
+    return json.loads(status(tried, path, "--json")[1])["sessions"]
+
+
+def sessions_told(tried: Tried) -> None:
+    """Each session that goes on, with its host, its commands, and the bytes that came and went; and none that has ended."""
+    path = tried.path("control")
+    with Server(tried, *SMALL, "--control", path) as server:
+        same("without a session", sessions_of(tried, path), [])
+        host = Host(server, sas=SAS)
+        [first] = sessions_of(tried, path)
+        same("its host", (first["number"], first["nexus"], first["name"], first["address"]), (1, NEXUS, None, None))
+        same("whether its start is a time", re.fullmatch(r"\d{4}-\d\d-\d\dT\d\d:\d\d:\d\d(\.\d+)?Z", first["start"]) is not None, True)
+        host.loads()
+        host.writes(bytes(1000))
+        [later] = sessions_of(tried, path)
+        same("what stays", {**later, "commands": 0, "received": 0, "sent": 0}, {**first, "commands": 0, "received": 0, "sent": 0})
+        same("whether what was written is counted", later["received"] >= first["received"] + 1000, True)
+        same("whether commands and answers are", (later["commands"] > first["commands"], later["sent"] > first["sent"]), (True, True))
+        holds("the picture", status(tried, path)[1], f"""
+
+Session 1, {NEXUS}
+  since {first["start"]}
+  commands {later["commands"]}
+  bytes received {later["received"]}, sent {later["sent"]}
+""")
+        second = Host(server, sas=SAS + 1)
+        second.meets(CHANGER)
+        same("two", [session["nexus"] for session in sessions_of(tried, path)], [NEXUS, f"{SAS + 1:016x}.1"])
+        host.connection.close()
+        second.connection.close()
+        for _ in range(100):
+            if not sessions_of(tried, path):
+                break
+            time.sleep(0.1)
+        same("after their end", sessions_of(tried, path), [])
 
 
 def held_by_all(tried: Tried) -> None:
@@ -128,7 +180,7 @@ LUN 1, drive
 def pictures(tried: Tried, path: str, wanted: str) -> None:
     ended, printed, reported = status(tried, path)
     same("the status, and what is reported", (ended, reported), (0, ""))
-    same_lines(printed, wanted)
+    same_lines(without_drawn_sessions(printed), wanted)
 
 
 def pictured(tried: Tried) -> None:
@@ -242,7 +294,7 @@ def twice(tried: Tried) -> None:
         command = [tried.program, "status", "--control", path, "--json"]
         both = [subprocess.Popen(command, stdout=subprocess.PIPE) for _ in range(2)]
         for one in both:
-            same("what it prints", one.communicate(timeout=patience())[0].decode(), at_power_on())
+            same("what it prints", without_sessions(one.communicate(timeout=patience())[0].decode()), at_power_on())
             same("its status", one.returncode, 0)
 
 
@@ -253,12 +305,12 @@ def watched(tried: Tried) -> None:
         command = [tried.program, "status", "--control", path, "--json", "--watch"]
         with subprocess.Popen(command, stdout=subprocess.PIPE, stderr=subprocess.PIPE, text=True) as process:
             assert process.stdout is not None and process.stderr is not None
-            same("the first line", process.stdout.readline(), at_power_on())
+            same("the first line", without_sessions(process.stdout.readline()), at_power_on())
             host = Host(server, sas=SAS)
             host.meets(CHANGER)
             lines = [process.stdout.readline() for _ in range(2)]
             used = changer(None, None, "VOL00001", None, slots={"used": 1, "of": 128}, records={"last": 1, "waiting": 1})
-            same("the last line", lines[-1], line_of(used, drive(None)))
+            same("the last line", without_sessions(lines[-1]), line_of(used, drive(None)))
             host.connection.close()
             server.end()
             server.ends()
@@ -318,6 +370,7 @@ def left_over(tried: Tried) -> None:
 
 ROWS = [
     Row("status-told", "the status of a library is that of its units, to the byte, and asking for it changes nothing", told),
+    Row("status-sessions", "the status has each session that goes on, with what it has sent and got", sessions_told),
     Row("status-pictured", "the status is shown in lines that say what the library's units are at", pictured),
     Row("status-pictured-folder", "the picture of a kept library has the tags, and what is in the images", pictured_folder),
     Row("status-pictured-whole", "the picture of the largest library has at most 80 columns", pictured_whole),

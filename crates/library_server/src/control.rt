@@ -4,11 +4,12 @@
 ghost use Rattle.std.specs.Prelude.{◌≤◌, IfOk, string_bytes};
 ghost use Rattle.library_server.specs.Status.{IsStatus};
 
+use crate::session_summaries::sessions_of;
 use kept_unit::Ledgers;
 use library_start::Device;
 use library_status::status_text;
 use lun_router::{Library, Pass};
-use server::{Event, Teller};
+use server::{Event, LiveSessions, Teller};
 use status_reader::read_library;
 use std::alloc::{AllocError, Global};
 use std::io::{self, ErrorKind, Write};
@@ -58,6 +59,7 @@ impl ControlSocket {
         rt: &R,
         alloc: Global,
         library: &Library<B, Device, Pass>,
+        sessions: &LiveSessions,
         teller: &Teller<E>,
     ) {
         'turns: for _turn in rt.forever() {
@@ -66,7 +68,7 @@ impl ControlSocket {
                 return;
             }
             match accepted {
-                Ok((stream, _)) => answer(rt, alloc, library, &stream, teller),
+                Ok((stream, _)) => answer(rt, alloc, library, sessions, &stream, teller),
                 Err(_) => {
                     teller.tell(rt, &Event::NotAccepted);
                     thread::sleep(rt, Duration::from_millis(PAUSE));
@@ -81,10 +83,11 @@ fn answer<B: Ledgers, R: Clock + Wait, E: Write>(
     rt: &R,
     alloc: Global,
     library: &Library<B, Device, Pass>,
+    sessions: &LiveSessions,
     stream: &UnixStream,
     teller: &Teller<E>,
 ) {
-    let is_sent = match status_of(rt, alloc, library) {
+    let is_sent = match status_of(rt, alloc, library, sessions) {
         Ok(text) => send(rt, stream, text.as_bytes()).is_ok(),
         Err(_) => false,
     };
@@ -93,16 +96,18 @@ fn answer<B: Ledgers, R: Clock + Wait, E: Write>(
     }
 }
 
-/// The status of a library: a line of JSON and a picture. May wait for calls at units.
+/// The status of a library and of the sessions that go on: a line of JSON and a picture. May wait for calls at units.
 fn status_of<B: Ledgers, R: Wait>(
     rt: &R,
     alloc: Global,
     library: &Library<B, Device, Pass>,
+    sessions: &LiveSessions,
 ) -> Result<String, AllocError>
     ensures { IfOk result (λ text. IsStatus B.profile library.now.units (string_bytes text)) }
 {
     let summary = read_library(rt, alloc, library)?;
-    let text = status_text(alloc, &summary)?;
+    let live = sessions_of(rt, alloc, sessions)?;
+    let text = status_text(alloc, &summary, &live)?;
     Ok(text)
 }
 

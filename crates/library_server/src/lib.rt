@@ -20,6 +20,7 @@ mod secrets_file;
 mod served_lines;
 mod server_fault;
 mod serving;
+mod session_summaries;
 mod socket;
 mod socket_fault;
 mod socket_file;

@@ -190,9 +190,10 @@ fn serve_and_show<
     ensures fault { IfOk result (λ fault. IfSome fault (MayTell acceptor.now.limits.term)) }
 {
     let (rt, alloc, teller) = (means.rt, means.alloc, means.teller);
+    let sessions = acceptor.limits.sessions;
     let ((), served) = thread::join_mut(
         rt,
-        &mut || control.answer_all(rt, alloc, library, teller),
+        &mut || control.answer_all(rt, alloc, library, sessions, teller),
         &mut || serve_and_shut(means, control, library, seats, acceptor, batch, writer),
     );
     served

@@ -14,6 +14,8 @@ use Rattle.library_status.specs.Words.{key_after, nexus_after, number_after, tag
 use Rattle.library_status.specs.declared.word.Word.TheVariants as word
 use Rattle.library_status.specs.declared.summary.ElementSummary.{ElementSummary}
 use Rattle.library_status.specs.declared.summary.LibrarySummary.{LibrarySummary}
+use Rattle.library_status.specs.declared.summary.SessionSummary.{SessionSummary}
+use Rattle.library_status.specs.Sessions.{session_json}
 use Rattle.library_status.specs.declared.summary.UnitContents.{UnitContents}
 use Rattle.library_status.specs.declared.summary.UnitContents.TheVariants as contents
 use Rattle.library_status.specs.declared.summary.UnitSummary.{UnitSummary}
@@ -128,8 +130,11 @@ profile_text Spec = codes "spec"
 profile_text Hosts = codes "hosts"
 
 unfoldable pub units_json : List UnitSummary → List ℕ
-units_json us = word_text word.Units ++ listed unit_json us ++ word_text word.EndOfUnits
+units_json us = word_text word.Units ++ listed unit_json us
+
+unfoldable pub sessions_json : List SessionSummary → List ℕ
+sessions_json ss = word_text word.Sessions ++ listed session_json ss ++ word_text word.EndOfUnits
 
 -- the line, without its end
-unfoldable pub library_json : LibrarySummary → List ℕ
-library_json l = words_after word.Version (profile_text l.profile) ++ units_json l.units.items
+unfoldable pub library_json : LibrarySummary → List SessionSummary → List ℕ
+library_json l sessions = words_after word.Version (profile_text l.profile) ++ units_json l.units.items ++ sessions_json sessions

@@ -1,6 +1,7 @@
 -- The summary of a library as a picture: lines of graphic ASCII for a terminal of 80 columns (profile). Each but the first begins with the end of the one before.
-use Rattle.std.specs.Prelude.{ℕ, ◌-◌, ◌%◌, ◌^◌, ◌==◌, ◌&&◌, nat_le, nat_lt, Bool, true, false, List, [], ◌∷◌, ◌++◌, length, replicate, take, Option, None, Some, if◌then◌else◌}
+use Rattle.std.specs.Prelude.{ℕ, ◌-◌, ◌%◌, ◌^◌, ◌==◌, ◌&&◌, nat_le, nat_lt, Bool, true, false, List, [], ◌∷◌, ◌++◌, length, replicate, take, Option, None, Some, String, string_bytes, if◌then◌else◌}
 use Rattle.std.specs.Fmt.{decimal, format_spec, padded_integral}
+use Rattle.std.specs.Global.{Global}
 use Rattle.std.specs.List.{flat_map}
 use Rattle.scsi_nexus.specs.declared.nexus.Nexus.{Nexus}
 use Rattle.permit_tables.specs.declared.res_type.ResType.{ResType}
@@ -13,6 +14,8 @@ use Rattle.library_status.specs.Json.{element_type_text, kind_text, profile_text
 use Rattle.library_status.specs.declared.word.Word.TheVariants as word
 use Rattle.library_status.specs.declared.summary.ElementSummary.{ElementSummary}
 use Rattle.library_status.specs.declared.summary.LibrarySummary.{LibrarySummary}
+use Rattle.library_status.specs.declared.summary.SessionSummary.{SessionSummary}
+use Rattle.library_status.specs.Sessions.{from_picture, nexus_picture, since_picture, traffic_picture}
 use Rattle.library_status.specs.declared.summary.UnitContents.{UnitContents}
 use Rattle.library_status.specs.declared.summary.UnitContents.TheVariants as contents
 use Rattle.library_status.specs.declared.summary.UnitSummary.{UnitSummary}
@@ -111,6 +114,28 @@ standing u = counts u ++ prevention u.is_prevented ++ holding u
 unfoldable pub unit_picture : UnitSummary → List ℕ
 unit_picture u = title u ++ standing u ++ contents_picture u.contents
 
+-- SESSIONS
+
+-- a name in 70 columns; of a longer one the first 69 bytes are there, and a tilde
+unfoldable pub name_in_columns : List ℕ → List ℕ
+name_in_columns bytes = if nat_lt 70 (length bytes) then glyphs (take 69 bytes) ++ 126 ∷ [] else glyphs bytes
+
+abbrev pub name_picture : Option (String Global) → List ℕ
+name_picture None = []
+name_picture (Some name) = word_text word.NameLine ++ name_in_columns (string_bytes name)
+
+unfoldable pub origin_picture : SessionSummary → List ℕ
+origin_picture s = name_picture s.name ++ from_picture s.address ++ since_picture s.start
+
+unfoldable pub whose_picture : SessionSummary → List ℕ
+whose_picture s = number_after word.SessionTitle s.number ++ nexus_picture s.nexus
+
+unfoldable pub session_picture : SessionSummary → List ℕ
+session_picture s = whose_picture s ++ origin_picture s ++ traffic_picture s
+
+unfoldable pub units_picture : LibrarySummary → List ℕ
+units_picture l = words_after word.Profile (profile_text l.profile) ++ flat_map unit_picture l.units.items
+
 -- the picture, with the end of its last line
-unfoldable pub picture : LibrarySummary → List ℕ
-picture l = words_after word.Profile (profile_text l.profile) ++ flat_map unit_picture l.units.items ++ word_text word.EndOfLine
+unfoldable pub picture : LibrarySummary → List SessionSummary → List ℕ
+picture l sessions = units_picture l ++ flat_map session_picture sessions ++ word_text word.EndOfLine

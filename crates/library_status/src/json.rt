@@ -1,9 +1,12 @@
 //! The summary of a library as a line of JSON (RFC 8259).
 
 ghost use Rattle.std.specs.Prelude.{◌≡◌, ◌++◌, OnOk, Some, string_bytes};
-ghost use Rattle.library_status.specs.Json.{address_json, cartridge_json, contents_json, element_json, element_type_text, held_by_json, held_json, holder_json, holds_json, in_drive_json, kind_text, library_json, listed, numbers_json, objects_json, place_json, profile_text, records_json, registration_json, registrations_json, reservation_json, reserved_json, state_json, tag_json, tape_json, truth, unit_json, units_json, volume_json};
+ghost use Rattle.library_status.specs.Json.{address_json, cartridge_json, contents_json, element_json, element_type_text, held_by_json, held_json, holder_json, holds_json, in_drive_json, kind_text, library_json, listed, numbers_json, objects_json, place_json, profile_text, records_json, registration_json, registrations_json, reservation_json, reserved_json, sessions_json, state_json, tag_json, tape_json, truth, unit_json, units_json, volume_json};
 
-use crate::summary::{ElementSummary, LibrarySummary, UnitContents, UnitSummary, VolumeSummary};
+use crate::sessions::write_session;
+use crate::summary::{
+    ElementSummary, LibrarySummary, SessionSummary, UnitContents, UnitSummary, VolumeSummary,
+};
 use crate::word::Word;
 use crate::words::{write_key, write_nexus, write_number, write_tag, write_word, write_words};
 use element_map::ElementType;
@@ -15,11 +18,16 @@ use tape_medium::VolumeTag;
 
 /// Adds the summary of a library in JSON, without the end of the line.
 #[tactic(auto, unfolding(crate::specs::Json::library_json))]
-pub(crate) fn write_library(text: &mut String, library: &LibrarySummary) -> Result<(), AllocError>
-    ensures { OnOk result (string_bytes text.new ≡ string_bytes text.old ++ library_json library.now) }
+pub(crate) fn write_library(
+    text: &mut String,
+    library: &LibrarySummary,
+    sessions: &[SessionSummary],
+) -> Result<(), AllocError>
+    ensures { OnOk result (string_bytes text.new ≡ string_bytes text.old ++ library_json library.now sessions.now) }
 {
     write_words(text, Word::Version, profile_text(library.profile))?;
-    write_units(text, &library.units)
+    write_units(text, &library.units)?;
+    write_sessions(text, sessions)
 }
 
 #[tactic(auto, unfolding(crate::specs::Json::units_json))]
@@ -27,7 +35,15 @@ fn write_units(text: &mut String, units: &[UnitSummary]) -> Result<(), AllocErro
     ensures { OnOk result (string_bytes text.new ≡ string_bytes text.old ++ units_json units.now) }
 {
     write_word(text, Word::Units)?;
-    write_list(text, units)?;
+    write_list(text, units)
+}
+
+#[tactic(auto, unfolding(crate::specs::Json::sessions_json))]
+fn write_sessions(text: &mut String, sessions: &[SessionSummary]) -> Result<(), AllocError>
+    ensures { OnOk result (string_bytes text.new ≡ string_bytes text.old ++ sessions_json sessions.now) }
+{
+    write_word(text, Word::Sessions)?;
+    write_list(text, sessions)?;
     write_word(text, Word::EndOfUnits)
 }
 
@@ -69,6 +85,16 @@ fn write_list<T: Listed>(text: &mut String, items: &[T]) -> Result<(), AllocErro
         item.write_json(text)?;
     }
     Ok(())
+}
+
+impl Listed for SessionSummary {
+    ghost use Rattle.library_status.specs.Sessions.{session_json};
+
+    ghost json = { session_json };
+
+    fn write_json(&self, text: &mut String) -> Result<(), AllocError> {
+        write_session(text, self)
+    }
 }
 
 impl Listed for UnitSummary {

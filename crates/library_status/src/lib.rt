@@ -2,12 +2,17 @@
 #![tactic(auto)]
 
 mod json;
+mod laws;
 mod picture;
 mod rows;
+mod sessions;
 mod summary;
 mod text;
 mod word;
 mod words;
 
-pub use summary::{ElementSummary, LibrarySummary, UnitContents, UnitSummary, VolumeSummary};
+pub use laws::worked_rows;
+pub use summary::{
+    ElementSummary, LibrarySummary, SessionSummary, UnitContents, UnitSummary, VolumeSummary,
+};
 pub use text::status_text;

@@ -2,25 +2,47 @@
 
 ghost use Rattle.std.specs.Prelude.{◌≡◌, ◌++◌, OnOk, length, string_bytes};
 ghost use Rattle.std.specs.List.{flat_map};
-ghost use Rattle.library_status.specs.Picture.{cartridge_picture, contents_picture, counts, held_by, holding, picture, position_picture, prevention, protection, reservation_picture, standing, tape_picture, title, unit_picture, volume_picture};
+ghost use Rattle.library_status.specs.Picture.{cartridge_picture, contents_picture, counts, held_by, holding, picture, position_picture, prevention, protection, reservation_picture, session_picture, standing, tape_picture, title, unit_picture, units_picture, volume_picture};
 
 use crate::json::{kind_text, profile_text};
 use crate::rows::{write_elements, write_named};
-use crate::summary::{LibrarySummary, UnitContents, UnitSummary, VolumeSummary};
+use crate::sessions::draw_session;
+use crate::summary::{LibrarySummary, SessionSummary, UnitContents, UnitSummary, VolumeSummary};
 use crate::word::Word;
 use crate::words::{write_nexus, write_number, write_word, write_words};
 use permit_tables::ResType;
 use scsi_nexus::Nexus;
 use std::alloc::AllocError;
 
-/// Adds the picture of a library.
+/// Adds the picture of a library, and of sessions that go on.
 #[tactic(auto, unfolding(crate::specs::Picture::picture))]
-pub(crate) fn write_picture(text: &mut String, library: &LibrarySummary) -> Result<(), AllocError>
-    ensures { OnOk result (string_bytes text.new ≡ string_bytes text.old ++ picture library.now) }
+pub(crate) fn write_picture(
+    text: &mut String,
+    library: &LibrarySummary,
+    sessions: &[SessionSummary],
+) -> Result<(), AllocError>
+    ensures { OnOk result (string_bytes text.new ≡ string_bytes text.old ++ picture library.now sessions.now) }
+{
+    write_all_units(text, library)?;
+    write_sessions(text, sessions)?;
+    write_word(text, Word::EndOfLine)
+}
+
+#[tactic(auto, unfolding(crate::specs::Picture::units_picture))]
+fn write_all_units(text: &mut String, library: &LibrarySummary) -> Result<(), AllocError>
+    ensures { OnOk result (string_bytes text.new ≡ string_bytes text.old ++ units_picture library.now) }
 {
     write_words(text, Word::Profile, profile_text(library.profile))?;
-    write_units(text, &library.units)?;
-    write_word(text, Word::EndOfLine)
+    write_units(text, &library.units)
+}
+
+fn write_sessions(text: &mut String, sessions: &[SessionSummary]) -> Result<(), AllocError>
+    ensures { OnOk result (string_bytes text.new ≡ string_bytes text.old ++ flat_map session_picture sessions.now) }
+{
+    for session in sessions {
+        draw_session(text, session)?;
+    }
+    Ok(())
 }
 
 fn write_units(text: &mut String, units: &[UnitSummary]) -> Result<(), AllocError>

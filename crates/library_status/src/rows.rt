@@ -127,7 +127,7 @@ pub(crate) fn write_named(text: &mut String, tag: &VolumeTag) -> Result<(), Allo
     write_glyphs(text, without_spaces(&tag.0))
 }
 
-fn write_glyphs(text: &mut String, bytes: &[u8]) -> Result<(), AllocError>
+pub(crate) fn write_glyphs(text: &mut String, bytes: &[u8]) -> Result<(), AllocError>
     ensures { OnOk result (string_bytes text.new ≡ string_bytes text.old ++ glyphs bytes.now) }
 {
     for byte in bytes {

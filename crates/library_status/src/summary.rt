@@ -13,6 +13,27 @@ pub struct LibrarySummary {
     pub units: Vec<UnitSummary>,
 }
 
+/// A session that goes on, at one moment.
+#[derive(Drop)]
+pub struct SessionSummary {
+    /// Its place in the order of accepting, from 1 on.
+    pub number: u64,
+    /// Whom it is of, once its host has logged in.
+    pub nexus: Option<Nexus>,
+    /// The iSCSI name that its initiator has given.
+    pub name: Option<String>,
+    /// The address that it came from, at a portal.
+    pub address: Option<String>,
+    /// When it began (RFC 3339), where the clock could be read.
+    pub start: Option<String>,
+    /// How many commands it has sent.
+    pub commands: u64,
+    /// How many bytes came.
+    pub received: u64,
+    /// How many bytes were sent.
+    pub sent: u64,
+}
+
 /// A logical unit at one moment.
 #[derive(Drop)]
 pub struct UnitSummary {

@@ -74,7 +74,7 @@ pub(crate) fn without_spaces(bytes: &[u8]) -> &[u8]
 }
 
 /// Bytes as they stand in a string.
-fn write_escaped(text: &mut String, bytes: &[u8]) -> Result<(), AllocError>
+pub(crate) fn write_escaped(text: &mut String, bytes: &[u8]) -> Result<(), AllocError>
     ensures { OnOk result (string_bytes text.new ≡ string_bytes text.old ++ flat_map escaped bytes.now) }
 {
     for byte in bytes {

@@ -8,13 +8,15 @@ mod live_sessions;
 mod login_terms;
 mod no_room;
 mod reset_counts;
+mod session_counts;
 #[cfg(test)]
 mod tests;
 
 pub use end_notice::EndNotice;
 pub use live_list::{Entry, RefusedInitiator};
-pub use live_session::{Initiator, InitiatorName, Origin};
+pub use live_session::{Initiator, InitiatorName, Origin, SessionReport};
 pub use live_sessions::{EndInPlace, LiveSessions};
 pub use login_terms::{LoginTerms, Paths, SPARE_WORKERS};
 pub use no_room::NoRoom;
 pub use reset_counts::ResetCounts;
+pub use session_counts::SessionCounts;

@@ -1,6 +1,8 @@
 //! The sessions that go on, and who is let in beside them.
 
-use crate::live_session::{Initiator, InitiatorName, LiveSession, Origin, Standing};
+use crate::live_session::{
+    Connected, Initiator, InitiatorName, LiveSession, Origin, SessionReport, Standing,
+};
 use crate::login_terms::{LoginTerms, MOST_BEFORE_LOGIN, MOST_OF_NEXUS, Paths};
 use crate::no_room::NoRoom;
 use arrayvec::ArrayVec;
@@ -10,7 +12,6 @@ use scsi_nexus::Nexus;
 use slab::Slab;
 use std::alloc::{AllocError, Global};
 use std::net::IpAddr;
-use std::os::unix::net::UnixStream;
 use unit_attention::SLOTS;
 
 /// What comes of a connection.
@@ -103,10 +104,10 @@ impl LiveList {
         self.sessions.is_empty()
     }
 
-    /// Enters a session by a second descriptor of its stream, where one may begin.
+    /// Enters a session, where one may begin.
     pub fn begin(
         &mut self,
-        stream: UnixStream,
+        connected: Connected,
         number: u64,
         origin: Option<Origin>,
     ) -> Result<Entry, AllocError> {
@@ -114,7 +115,7 @@ impl LiveList {
             return Ok(Entry::Ended);
         }
         let tsih = self.new_tsih();
-        let live = LiveSession::new(stream, number, origin, tsih);
+        let live = LiveSession::new(connected, number, origin, tsih);
         if let Some(address) = live.address() {
             if self.count_waiting(address) >= MOST_BEFORE_LOGIN {
                 return Ok(Entry::Crowded(address));
@@ -122,6 +123,15 @@ impl LiveList {
         }
         let key = self.sessions.insert(live).map_err(AllocError::from)?;
         Ok(Entry::Begins { key, tsih })
+    }
+
+    /// What is to be reported of the sessions that go on.
+    pub fn reports(&self, alloc: Global) -> Result<Vec<SessionReport>, AllocError> {
+        let mut reports = Vec::new(alloc);
+        for (_, live) in self.sessions.iter() {
+            reports.push(live.report())?;
+        }
+        Ok(reports)
     }
 
     /// Forgets a session that has ended.

@@ -1,12 +1,16 @@
 //! A session that goes on, and how far it has come.
 
 use crate::no_room::NoRoom;
+use crate::session_counts::SessionCounts;
 use arrayvec::ArrayVec;
 use iscsi_keys::{LONGEST_NAME, is_same_name};
 use iscsi_session::{Entrant, NexusEnd, SessionIdentity};
 use scsi_nexus::Nexus;
+use std::alloc::Global;
 use std::net::{IpAddr, Shutdown, SocketAddr};
 use std::os::unix::net::UnixStream;
+use std::sync::Arc;
+use std::time::SystemTime;
 
 /// The iSCSI name that an initiator has given, empty where it has given none.
 pub type InitiatorName = ArrayVec<u8, LONGEST_NAME>;
@@ -23,6 +27,26 @@ pub struct Initiator {
 pub struct Origin {
     pub peer: SocketAddr,
     pub group: u16,
+}
+
+/// What is to be reported of a session that goes on.
+#[derive(Drop)]
+pub struct SessionReport {
+    /// Its place in the order of accepting, from 1 on.
+    pub number: u64,
+    /// Of whom it is, once its host is let in.
+    pub nexus: Option<Nexus>,
+    /// The name that its initiator has given, empty where it has given none.
+    pub name: InitiatorName,
+    /// The address that it came from, at a portal.
+    pub address: Option<IpAddr>,
+    /// When it began, where the clock could be read.
+    pub start: Option<SystemTime>,
+    /// How many commands it has sent.
+    pub commands: u64,
+    /// How many bytes came, and were sent.
+    pub received: u64,
+    pub sent: u64,
 }
 
 /// How the nexus of a session stands.
@@ -56,6 +80,17 @@ enum Stage {
     HasLeft,
 }
 
+/// What a session begins with.
+#[derive(Drop)]
+pub(crate) struct Connected {
+    /// A second descriptor of its stream.
+    pub stream: UnixStream,
+    /// When it began, where the clock could be read.
+    pub start: Option<SystemTime>,
+    /// What its own thread counts.
+    pub counts: Arc<SessionCounts, Global>,
+}
+
 /// A session that goes on.
 #[derive(Drop)]
 pub(crate) struct LiveSession {
@@ -64,6 +99,10 @@ pub(crate) struct LiveSession {
     number: u64,
     /// Where it came from, at a portal.
     origin: Option<Origin>,
+    /// When it began, where the clock could be read.
+    start: Option<SystemTime>,
+    /// What its own thread counts.
+    counts: Arc<SessionCounts, Global>,
     /// What is the target's part of its session's identifier, unless it takes the place of another connection.
     tsih: u16,
     name: InitiatorName,
@@ -74,11 +113,23 @@ pub(crate) struct LiveSession {
 
 impl LiveSession {
     /// One that has just begun.
-    pub fn new(stream: UnixStream, number: u64, origin: Option<Origin>, tsih: u16) -> LiveSession {
+    pub fn new(
+        connected: Connected,
+        number: u64,
+        origin: Option<Origin>,
+        tsih: u16,
+    ) -> LiveSession {
+        let Connected {
+            stream,
+            start,
+            counts,
+        } = connected;
         LiveSession {
             stream,
             number,
             origin,
+            start,
+            counts,
             tsih,
             name: ArrayVec::new(),
             stage: Stage::BeforeLogin,
@@ -99,6 +150,20 @@ impl LiveSession {
         // There is as much room.
         let _ = name.try_extend_from_slice(self.name());
         name
+    }
+
+    /// What is to be reported of it.
+    pub fn report(&self) -> SessionReport {
+        SessionReport {
+            number: self.number,
+            nexus: self.counts.nexus(),
+            name: self.name_copy(),
+            address: self.address(),
+            start: self.start,
+            commands: self.counts.commands(),
+            received: self.counts.received(),
+            sent: self.counts.sent(),
+        }
     }
 
     /// Why its initiator wasn't let in, where its login was as it should be.

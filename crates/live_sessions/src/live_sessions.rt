@@ -1,17 +1,18 @@
 use crate::end_notice::EndNotice;
 use crate::live_list::{Entry, LiveList, RefusedInitiator};
-use crate::live_session::{Initiator, Origin};
+use crate::live_session::{Connected, Initiator, Origin, SessionReport};
 use crate::login_terms::{LoginTerms, SPARE_WORKERS};
 use crate::no_room::NoRoom;
 use crate::reset_counts::ResetCounts;
+use crate::session_counts::SessionCounts;
 use iscsi_pdu::LoginStatus;
 use iscsi_session::{Entrant, Joined, NexusEnd, SessionIdentity};
 use scsi_nexus::Nexus;
-use std::alloc::Global;
+use std::alloc::{AllocError, Global};
 use std::io;
 use std::os::unix::net::UnixStream;
-use std::sync::{Condvar, Mutex, Wait};
-use std::time::{Clock, Duration};
+use std::sync::{Arc, Condvar, Mutex, Wait};
+use std::time::{Clock, Duration, SystemTime};
 
 /// How many seconds a session is waited for whose place another one takes, and a nexus that is being lost.
 const END_OF_SESSION: u64 = 5;
@@ -93,16 +94,31 @@ impl LiveSessions {
         live.shut_all_down();
     }
 
-    /// Enters a session of a place in the order of accepting by a second descriptor of its stream, where one may begin.
-    pub fn begin<R: Wait>(
+    /// Enters a session of a place in the order of accepting by a second descriptor of its stream and what its thread counts, where one
+    /// may begin.
+    pub fn begin<R: Clock + Wait>(
         &self,
         rt: &R,
         stream: &UnixStream,
         number: u64,
         origin: Option<Origin>,
+        counts: Arc<SessionCounts, Global>,
     ) -> io::Result<Entry> {
-        let second = stream.try_clone()?;
-        Ok(self.live.lock(rt).begin(second, number, origin)?)
+        let connected = Connected {
+            stream: stream.try_clone()?,
+            start: SystemTime::now(rt).ok(),
+            counts,
+        };
+        Ok(self.live.lock(rt).begin(connected, number, origin)?)
+    }
+
+    /// What is to be reported of the sessions that go on.
+    pub fn reports<R: Wait>(
+        &self,
+        rt: &R,
+        alloc: Global,
+    ) -> Result<Vec<SessionReport>, AllocError> {
+        self.live.lock(rt).reports(alloc)
     }
 
     /// Forgets a session that has ended, by its key.

@@ -4,6 +4,7 @@ use crate::live_list::Entry;
 use crate::live_session::{Initiator, Origin};
 use crate::live_sessions::{EndInPlace, LiveSessions};
 use crate::login_terms::{LoginTerms, Paths};
+use crate::session_counts::SessionCounts;
 use iscsi_login::Admission;
 use iscsi_pdu::LoginStatus;
 use iscsi_session::{Entrant, Joined, NexusEnd, SessionIdentity};
@@ -12,7 +13,7 @@ use std::alloc::AllocGlobal;
 use std::net::{IpAddr, Ipv4Addr, Net, SocketAddr};
 use std::os::unix::net::UnixStream;
 use std::process::Abort;
-use std::sync::Wait;
+use std::sync::{Arc, Wait};
 use std::thread;
 use std::thread::Threads;
 use std::time::{Clock, Duration};
@@ -63,11 +64,16 @@ fn entrant(isid: u16) -> Entrant {
 }
 
 /// A session that has begun, with its stream, and its key.
-fn begun<R: Abort + Net + Wait>(rt: &R, live: &LiveSessions, number: u64) -> (UnixStream, usize) {
+fn begun<R: Abort + AllocGlobal + Clock + Net + Wait>(
+    rt: &R,
+    live: &LiveSessions,
+    number: u64,
+) -> (UnixStream, usize) {
     let (stream, _) = UnixStream::pair(rt).expect(rt, "a stream");
     let peer = SocketAddr::new(IpAddr::V4(Ipv4Addr::new(10, 0, 0, 1)), 1000);
     let origin = Some(Origin { peer, group: 1 });
-    match live.begin(rt, &stream, number, origin) {
+    let counts = Arc::new(rt.alloc(), SessionCounts::new()).expect(rt, "memory");
+    match live.begin(rt, &stream, number, origin, counts) {
         Ok(Entry::Begins { key, .. }) => (stream, key),
         Ok(Entry::Ended) | Ok(Entry::Crowded(_)) | Err(_) => rt.panic("no session begins"),
     }
@@ -85,7 +91,10 @@ fn sessions<R: AllocGlobal>(rt: &R) -> LiveSessions {
 }
 
 /// A session of A that is in, and another one that has begun: the keys of both.
-fn one_in<R: Abort + Clock + Net + Wait>(rt: &R, live: &LiveSessions) -> (usize, usize) {
+fn one_in<R: Abort + AllocGlobal + Clock + Net + Wait>(
+    rt: &R,
+    live: &LiveSessions,
+) -> (usize, usize) {
     let (_, first) = begun(rt, live, 1);
     let joined = told_by(live.admit(rt, first, &entrant(1)));
     assert!(rt; joined == Told::First, "the first is the first");

@@ -30,7 +30,7 @@ pub use door::Door;
 pub use event::{EndedSession, Event};
 pub use faulty_session::{Cause, FaultySession, InOrder, first_by};
 pub use keeping::KeepTeller;
-pub use live_sessions::{LiveSessions, LoginTerms, Paths};
+pub use live_sessions::{LiveSessions, LoginTerms, Paths, SessionReport};
 pub use record_drain::RecordDrain;
 pub use rows::session_rows;
 pub use staffing::{serve_all, serve_and_end};

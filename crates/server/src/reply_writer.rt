@@ -16,7 +16,9 @@ impl<'a> Write for ReplyWriter<'a> {
             return Err(io::Error::from(ErrorKind::ConnectionAborted));
         }
         let mut stream = self.stream;
-        stream.write(buffer)
+        let sent = stream.write(buffer)?;
+        self.flags.counts().note_sent(sent);
+        Ok(sent)
     }
 
     fn flush(&mut self) -> io::Result<()> {

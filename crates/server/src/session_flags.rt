@@ -1,6 +1,8 @@
+use live_sessions::SessionCounts;
 use mio::Waker;
+use std::alloc::{AllocError, Global};
 use std::sync::atomic::{AtomicBool, AtomicU32, Ordering};
-use std::sync::{Mutex, Wait};
+use std::sync::{Arc, Mutex, Wait};
 
 /// What is known of the session that a worker serves, for its reader, its writer, and the threads that keep tapes.
 ///
@@ -17,21 +19,24 @@ pub(crate) struct SessionFlags {
     is_new: AtomicBool,
     /// How many records the session has left at units that were full, but for those whose replies were sent.
     unpaced: AtomicU32,
+    /// What it counts, which its status is told by.
+    counts: Arc<SessionCounts, Global>,
     /// By which the thread of the session is woken while it waits for its host.
     waker: Mutex<Option<Waker>>,
 }
 
 impl SessionFlags {
     /// Those of a session that has just begun.
-    pub fn new() -> SessionFlags {
-        SessionFlags {
+    pub fn new(alloc: Global) -> Result<SessionFlags, AllocError> {
+        Ok(SessionFlags {
             is_in: AtomicBool::new(false),
             is_kept: AtomicBool::new(true),
             is_holding: AtomicBool::new(false),
             is_new: AtomicBool::new(false),
             unpaced: AtomicU32::new(0),
+            counts: Arc::new(alloc, SessionCounts::new())?,
             waker: Mutex::new(None),
-        }
+        })
     }
 
     /// Another session begins.
@@ -41,6 +46,16 @@ impl SessionFlags {
         self.is_holding.store(false, Ordering::SeqCst);
         self.is_new.store(false, Ordering::SeqCst);
         self.unpaced.store(0, Ordering::SeqCst);
+    }
+
+    /// What the session counts.
+    pub fn counts(&self) -> &SessionCounts {
+        &self.counts
+    }
+
+    /// The same, shared with whoever reports it.
+    pub fn shared_counts(&self) -> Result<Arc<SessionCounts, Global>, AllocError> {
+        Arc::try_clone(&self.counts)
     }
 
     /// The session has ended: it holds nothing any more, and no thread wakes it.

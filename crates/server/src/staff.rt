@@ -22,7 +22,7 @@ pub(crate) fn flags_of(alloc: Global, count: usize) -> Result<Vec<SessionFlags>,
 {
     let mut flags = Vec::new(alloc);
     'flags: for _worker in 0..count {
-        flags.push(SessionFlags::new())?;
+        flags.push(SessionFlags::new(alloc)?)?;
     }
     Ok(flags)
 }

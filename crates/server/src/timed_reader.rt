@@ -292,8 +292,11 @@ fn shorter(one: Option<Duration>, other: Option<Duration>) -> Option<Duration> {
     }
 }
 
-impl<'a, R: Clock + PollSource + Wait> Read for TimedReader<'a, R> {
-    fn read(&mut self, buffer: &mut [u8]) -> io::Result<usize> {
+impl<'a, R: Clock + PollSource + Wait> TimedReader<'a, R> {
+    /// Reads some bytes, for no longer than the host may be silent now.
+    fn read_some(&mut self, buffer: &mut [u8]) -> io::Result<usize>
+        ensures { ReadsAtMost result buffer.new }
+    {
         if self.flags.holds() {
             self.read_while_holding(buffer)
         } else if self.is_usual {
@@ -302,5 +305,13 @@ impl<'a, R: Clock + PollSource + Wait> Read for TimedReader<'a, R> {
             let wait = self.due_wait()?;
             self.read_within(buffer, wait)
         }
+    }
+}
+
+impl<'a, R: Clock + PollSource + Wait> Read for TimedReader<'a, R> {
+    fn read(&mut self, buffer: &mut [u8]) -> io::Result<usize> {
+        let received = self.read_some(buffer)?;
+        self.flags.counts().note_received(received);
+        Ok(received)
     }
 }

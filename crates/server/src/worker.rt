@@ -8,6 +8,7 @@ use crate::faulty_session::{Cause, FaultySession, first_accepted};
 use crate::logged_in::shown_name;
 use crate::refused_login::RefusedLogin;
 use crate::serving::serve_connection;
+use crate::session_flags::SessionFlags;
 use crate::teller::Teller;
 use crate::waiting::PollSource;
 use crate::worker_service::{SessionSoFar, WorkerService};
@@ -15,7 +16,7 @@ use iscsi_session::IscsiFault;
 use live_sessions::{Entry, LiveSessions};
 use session::SeatService;
 use std::alloc::Global;
-use std::io::Write;
+use std::io::{self, Write};
 use std::random::RandomSource;
 use std::sync::Wait;
 use std::time::{Clock, Duration, Instant};
@@ -84,7 +85,7 @@ impl<
         let rt = self.service.rt;
         let teller = self.service.teller;
         let sessions = acceptor.limits.sessions;
-        match sessions.begin(rt, &connection.stream, number, connection.origin) {
+        match begin(rt, sessions, connection, number, self.service.flags) {
             Ok(Entry::Begins { key, tsih }) => {
                 let new_session = NewSession {
                     connection,
@@ -139,6 +140,20 @@ impl<
         teller.tell(rt, &Event::Ends(ended_session));
         ended.err()
     }
+}
+
+/// Enters a session, where one may begin.
+fn begin<R: Clock + Wait>(
+    rt: &R,
+    sessions: &LiveSessions,
+    connection: &NewConnection,
+    number: u64,
+    flags: &SessionFlags,
+) -> io::Result<Entry> {
+    // What its status shows from now on is its own.
+    flags.counts().begin();
+    let counts = flags.shared_counts()?;
+    sessions.begin(rt, &connection.stream, number, connection.origin, counts)
 }
 
 /// Reports a session that had a fault; a login that was refused at a portal with where it came from, its name, and why there was no

@@ -211,6 +211,7 @@ impl<'a, S: SeatService, K: TapeKeeper, R: Wait, E: Write> WorkerService<'a, S, 
         ensures { MaySettle S.settles self.old self.new }
     {
         self.session.commands = self.session.commands.saturating_add(1);
+        self.flags.counts().note_command();
         match done.receipt().reply.status {
             Status::Busy => self.tell_busy(nexus, done.lun()),
             Status::Good => self.keep_in_place(done, length),
@@ -359,6 +360,7 @@ impl<'a, S: SeatService, K: TapeKeeper, R: Wait, E: Write> Service
         let entered = self.seat_service.login(nexus);
         if entered.is_ok() {
             self.flags.come_in();
+            self.flags.counts().note_nexus(nexus);
         }
         entered
     }
@@ -390,5 +392,6 @@ impl<'a, S: SeatService, K: TapeKeeper, R: Wait, E: Write> KeepingService
     fn join(&mut self, nexus: Nexus) {
         self.session.nexus = Some(nexus);
         self.flags.come_in();
+        self.flags.counts().note_nexus(nexus);
     }
 }
