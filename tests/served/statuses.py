@@ -1,4 +1,5 @@
 """`vtl status`, and the control socket of a server. docs/OPERATING.md has them, "See how a server stands"."""
+import contextlib
 import json
 import os
 import pathlib
@@ -270,7 +271,9 @@ def unread(tried: Tried) -> None:
         idle = [connected(path) for _ in range(20)]
         for connection in idle:
             connection.setsockopt(socket.SOL_SOCKET, socket.SO_RCVBUF, 1)
-        idle[0].sendall(bytes(1000))
+        # It may have been answered by then, and the connection closed.
+        with contextlib.suppress(BrokenPipeError, ConnectionResetError):
+            idle[0].sendall(bytes(1000))
         host = Host(server, sas=SAS)
         host.meets(DRIVE)
         ended, printed, reported = status(tried, path, "--json")
