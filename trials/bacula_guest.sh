@@ -62,11 +62,7 @@ modprobe sg
 modprobe st
 modprobe ch
 log_in 10.0.2.2:13270
-for _ in $(seq 600); do
-    [ -c /dev/nst1 ] && [ -c /dev/sch0 ] && break
-    sleep 0.1
-done
-udevadm settle
+await_devices /dev/nst1 /dev/sch0
 changer=$(generic_of 1A2B3C4D00)
 systemctl stop bacula-director bacula-sd bacula-fd 2>/dev/null
 # A unit reports to each host what happened before it came.

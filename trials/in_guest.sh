@@ -62,3 +62,12 @@ tape_of() {
         [ "$(tr -d '\0' <"/sys/class/scsi_tape/${each#/dev/}/device/vpd_pg80" 2>/dev/null | grep -c "$1")" = 0 ] || echo "$each"
     done
 }
+
+# Waits for the last tape and the last changer that logins bring.
+await_devices() {
+    for _ in $(seq 600); do
+        [ -c "$1" ] && [ -c "$2" ] && break
+        sleep 0.1
+    done
+    udevadm settle
+}

@@ -10,11 +10,7 @@ modprobe st
 modprobe ch
 log_in 10.0.2.2:13260
 log_in 10.0.2.2:13261
-for _ in $(seq 600); do
-    [ -c /dev/nst3 ] && [ -c /dev/sch1 ] && break
-    sleep 0.1
-done
-udevadm settle
+await_devices /dev/nst3 /dev/sch1
 changer=$(generic_of 1A2B3C4D00)
 drive=$(generic_of 1A2B3C4D01)
 other=$(generic_of 0000BEEF00)
