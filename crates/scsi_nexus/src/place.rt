@@ -1,7 +1,7 @@
-ghost use Rattle.std.specs.Prelude.{◌≡◌, T};
+ghost use Rattle.std.specs.Prelude.{◌≡◌, ◌≤◌, T, IsTrue, length};
 ghost use Rattle.std.specs.FinMap.{is_sorted};
 ghost use Rattle.scsi_nexus.specs.Order.{nexus_cmp};
-ghost use Rattle.scsi_nexus.specs.Place.{IsPlaceOf};
+ghost use Rattle.scsi_nexus.specs.Place.{IsAbove, IsPlaceOf};
 
 use crate::nexus::Nexus;
 use std::cmp::Ordering;
@@ -40,5 +40,41 @@ fn order_of(a: Nexus, b: Nexus) -> Ordering
         Ordering::Greater
     } else {
         Ordering::Equal
+    }
+}
+
+/// The same, where a place is tried first: if the nexus stands there, or would, the cost doesn't grow with the number of entries.
+pub fn place_near<V>(entries: &[(Nexus, V)], guess: usize, nexus: Nexus) -> Result<usize, usize>
+    requires { T (is_sorted nexus_cmp entries.now) }
+    ensures { IsPlaceOf nexus entries.now result }
+{
+    if guess < entries.len() {
+        match order_of(entries[guess].0, nexus) {
+            Ordering::Less => return place_of(entries, nexus),
+            Ordering::Equal => return Ok(guess),
+            Ordering::Greater => {}
+        }
+    }
+    if is_above(entries, guess, nexus) {
+        Err(guess)
+    } else {
+        place_of(entries, nexus)
+    }
+}
+
+/// Whether there is such a place, and a nexus is above each entry before it.
+fn is_above<V>(entries: &[(Nexus, V)], place: usize, nexus: Nexus) -> bool
+    requires { T (is_sorted nexus_cmp entries.now) }
+    ensures { IsTrue result → (place ≤ length entries.now) × IsAbove nexus entries.now place }
+{
+    if place == 0 {
+        return true;
+    }
+    if place > entries.len() {
+        return false;
+    }
+    match order_of(entries[place - 1].0, nexus) {
+        Ordering::Less => true,
+        Ordering::Equal | Ordering::Greater => false,
     }
 }

@@ -1,7 +1,7 @@
 use crate::kind::Kind;
 use crate::pending::Pending;
 use arrayvec::ArrayVec;
-use scsi_nexus::{Nexus, place_of};
+use scsi_nexus::{Nexus, place_near, place_of};
 use std::marker::Model;
 use thiserror::Error;
 
@@ -19,6 +19,8 @@ pub struct Queues {
     slots: ArrayVec<(Nexus, Pending), SLOTS>,
     /// Where the slot that `find` found last stood. It is a guess: any number is right.
     recent: usize,
+    /// Where the slot stands behind the one that a condition was raised at last: conditions are raised ascending by nexus. It is a guess too.
+    next: usize,
 }
 
 impl Model for Queues {
@@ -47,6 +49,7 @@ impl Queues {
         Queues {
             slots: ArrayVec::new(),
             recent: 0,
+            next: 0,
         }
     }
 
@@ -55,7 +58,16 @@ impl Queues {
         ensures found { IfOk result (λ place. IsSlotAt self.now nexus place) }
         ensures absent { OnErr result (slot_of self.now nexus ≡ None) }
     {
-        place_near(self.slots.as_slice(), self.recent, nexus)
+        place_at(self.slots.as_slice(), self.recent, nexus)
+    }
+
+    /// The same, with the other guess.
+    fn next_place(&self, nexus: Nexus) -> Result<usize, usize>
+        ensures place { IsPlaceOf nexus self.now result }
+        ensures found { IfOk result (λ place. IsSlotAt self.now nexus place) }
+        ensures absent { OnErr result (slot_of self.now nexus ≡ None) }
+    {
+        place_near(self.slots.as_slice(), self.next, nexus)
     }
 
     fn pending(&self, nexus: Nexus) -> Option<&Pending>
@@ -125,8 +137,12 @@ impl Queues {
     pub fn raise(&mut self, nexus: Nexus, kind: Kind)
         ensures { self.new ≡ raised self.old nexus kind }
     {
-        if let Ok(place) = self.place(nexus) {
-            self.slots.as_mut_slice()[place].1.raise(kind);
+        match self.next_place(nexus) {
+            Ok(place) => {
+                self.slots.as_mut_slice()[place].1.raise(kind);
+                self.next = place + 1;
+            }
+            Err(place) => self.next = place,
         }
     }
 
@@ -199,7 +215,11 @@ impl Queues {
         for (nexus, pending) in self.slots.as_slice() {
             slots.push((*nexus, pending.copy()));
         }
-        Queues { slots, recent: 0 }
+        Queues {
+            slots,
+            recent: 0,
+            next: 0,
+        }
     }
 }
 
@@ -209,7 +229,7 @@ ghost use Rattle.scsi_nexus.specs.Order.{nexus_cmp};
 ghost use Rattle.scsi_nexus.specs.Place.{IsPlaceOf};
 
 /// Where the slot of a nexus stands, or would. A place that it may have is tried first.
-fn place_near(slots: &[(Nexus, Pending)], guess: usize, nexus: Nexus) -> Result<usize, usize>
+fn place_at(slots: &[(Nexus, Pending)], guess: usize, nexus: Nexus) -> Result<usize, usize>
     requires { T (is_sorted nexus_cmp slots.now) }
     ensures { IsPlaceOf nexus slots.now result }
 {

@@ -1,4 +1,4 @@
-use Rattle.std.proofs.Common.{List, sym, rules}
+use Rattle.std.proofs.Common.{List, sym, rules, ◌∙◌}
 use Rattle.unit_attention.specs.declared.kind.Kind.{Kind}
 use Rattle.unit_attention.specs.Pending.{with_kind}
 use Rattle.unit_attention.proofs.SlotLemmas.{changed_in, same_without, sorted_as, sorted-change}
@@ -14,5 +14,5 @@ invariant_of-self c =
     (changed_in c.args.nexus c.self.inside.slots.items c.as_mut_slice.result.now c.args.self.now c.in-Ok.place c.index-as_mut_slice-place.result (λ (ks : List Kind). with_kind ks c.args.kind) c.raise.new.self c.as_mut_slice.ensures.value c.self.view_is c.in-Ok.ensures.place c.in-Ok.ensures.found c.raise.ensures)
     (sorted-change c.args.self.now c.args.nexus (λ (ks : List Kind). with_kind ks c.args.kind) (sorted_as _ _ (sym c.self.view_is) c.self.invariant))
 
-pub returns-in_default : goal.returns-in_default
-returns-in_default c = same_without c.args.nexus c.args.self.now (λ (ks : List Kind). with_kind ks c.args.kind) (search rules)
+pub returns-in-Err : goal.returns-in-Err
+returns-in-Err c = c.self.view_is ∙ same_without c.args.nexus c.args.self.now (λ (ks : List Kind). with_kind ks c.args.kind) (search rules)

@@ -3,7 +3,7 @@ use Rattle.std.specs.Ordering.{is_eq}
 use Rattle.scsi_nexus.specs.Order.{nexus_cmp}
 use Rattle.scsi_nexus.proofs.NexusLaws.{eq_by_cmp-nexus}
 use Rattle.scsi_nexus.proofs.PlaceLemmas.{found_at}
-use Rattle.unit_attention.proofs.queues.place_near.Goals as goal
+use Rattle.unit_attention.proofs.queues.place_at.Goals as goal
 
 is_equal : (o : Ordering) → is_eq o ≡ true → o ≡ Equal
 is_equal Less h = cc
