@@ -2,6 +2,8 @@
 import struct
 
 LONGEST_BLOCK = 65_536
+# The same in the profile for hosts.
+LONGEST_FOR_HOSTS = 1_048_576
 # The logical units of the changer and of the first drive.
 CHANGER, DRIVE = 0, 1
 # A CDB as bytes, or as hexadecimal digits.
@@ -19,7 +21,7 @@ def six(opcode: int, flags: int = 0, count: int = 0) -> bytes:
 
 TEST_UNIT_READY, REWIND, INQUIRY, ERASE = bytes(6), six(0x01), six(0x12, 0, 36), six(0x19)
 UNLOAD, LOAD, ALLOW, PREVENT = six(0x1B), six(0x1B, 0, 1), six(0x1E), six(0x1E, 0, 1)
-READ_POSITION = bytes([0x34]) + bytes(9)
+READ_POSITION, READ_BLOCK_LIMITS = bytes([0x34]) + bytes(9), six(0x05)
 
 
 def read(length: int, flags: int = 0) -> bytes:

@@ -3,6 +3,7 @@ use Rattle.std.proofs.Common.{◌≡◌, ℕ, zero, suc, ◌+◌, ◌<◌, ◌�
 use Rattle.std.proofs.Common.{Result, Ok, Err, arith}
 use Rattle.std.specs.Prelude.{All, OnOk, IfErr}
 use Rattle.std.proofs.lemmas.List.{take_more, take_all, get_or-map, length-map}
+use Rattle.scsi_cdb.specs.declared.profile.Profile.{Profile}
 use Rattle.scsi_nexus.specs.declared.nexus.Nexus.{Nexus}
 use Rattle.frames.specs.Frames.{FrameValue, Login, Logout}
 use Rattle.script_lines.specs.declared.client_request.ClientRequest.{ClientRequest}
@@ -39,45 +40,45 @@ asks_split (r ∷ requests) (suc i) request lt is =
     ap (λ (fs : List FrameValue). frame_of (request_value r) ∷ fs) (asks_split requests i request (omega arith) is)
 
 -- LOGIN is answered
-pub talks_first : (x : Explanations) (nexus : Nexus) (pending rest : List ℕ) (before after : Streams) → pending ≡ []
-    → Exchanges x (Login nexus) pending rest before after → Talks x (Login nexus ∷ []) before after rest
-talks_first x nexus pending rest before after none one =
-    talks_on x [] (Login nexus) before before after [] rest (talks_none x before)
-    (subst (λ (p : List ℕ). Exchanges x (Login nexus) p rest before after) none one)
+pub talks_first : (pr : Profile) (x : Explanations) (nexus : Nexus) (pending rest : List ℕ) (before after : Streams) → pending ≡ []
+    → Exchanges pr x (Login nexus) pending rest before after → Talks pr x (Login nexus ∷ []) before after rest
+talks_first pr x nexus pending rest before after none one =
+    talks_on pr x [] (Login nexus) before before after [] rest (talks_none pr x before)
+    (subst (λ (p : List ℕ). Exchanges pr x (Login nexus) p rest before after) none one)
 
 -- one request more
-pub talks_next : (x : Explanations) (nexus : Nexus) (requests : List ClientRequest) (i : ℕ) (request : ClientRequest) (f : FrameValue)
+pub talks_next : (pr : Profile) (x : Explanations) (nexus : Nexus) (requests : List ClientRequest) (i : ℕ) (request : ClientRequest) (f : FrameValue)
     (before middle after : Streams) (rest rest' : List ℕ)
     → i < length requests → request ≡ get_or requests i request → f ≡ frame_of (request_value request)
-    → Talks x (Login nexus ∷ asks (take i requests)) before middle rest → Exchanges x f rest rest' middle after
-    → Talks x (Login nexus ∷ asks (take (i + 1) requests)) before after rest'
-talks_next x nexus requests i request f before middle after rest rest' lt is framed so one =
-    subst (λ (fs : List FrameValue). Talks x (Login nexus ∷ fs) before after rest') (asks_next requests i request lt is)
-    (talks_on x (Login nexus ∷ asks (take i requests)) (frame_of (request_value request)) before middle after rest rest' so
-    (subst (λ (g : FrameValue). Exchanges x g rest rest' middle after) framed one))
+    → Talks pr x (Login nexus ∷ asks (take i requests)) before middle rest → Exchanges pr x f rest rest' middle after
+    → Talks pr x (Login nexus ∷ asks (take (i + 1) requests)) before after rest'
+talks_next pr x nexus requests i request f before middle after rest rest' lt is framed so one =
+    subst (λ (fs : List FrameValue). Talks pr x (Login nexus ∷ fs) before after rest') (asks_next requests i request lt is)
+    (talks_on pr x (Login nexus ∷ asks (take i requests)) (frame_of (request_value request)) before middle after rest rest' so
+    (subst (λ (g : FrameValue). Exchanges pr x g rest rest' middle after) framed one))
 
 -- LOGIN isn't answered
-pub breaks_first : (x : Explanations) (nexus : Nexus) (requests : List ClientRequest) (fault : ClientSessionFault) (pending : List ℕ)
+pub breaks_first : (pr : Profile) (x : Explanations) (nexus : Nexus) (requests : List ClientRequest) (fault : ClientSessionFault) (pending : List ℕ)
     (before after : Streams) → pending ≡ []
-    → Stops fault (Login nexus) pending before after → Breaks x nexus (request_values requests) fault before after
-breaks_first x nexus requests fault pending before after none stop = record {
+    → Stops pr fault (Login nexus) pending before after → Breaks pr x nexus (request_values requests) fault before after
+breaks_first pr x nexus requests fault pending before after none stop = record {
   done = [];
   next = Login nexus;
   others = asks requests ++ Logout ∷ [];
   rest = [];
   middle = before;
   frames = refl;
-  talked = talks_none x before;
-  stopped = subst (λ (p : List ℕ). Stops fault (Login nexus) p before after) none stop;
+  talked = talks_none pr x before;
+  stopped = subst (λ (p : List ℕ). Stops pr fault (Login nexus) p before after) none stop;
 }
 
 -- a request isn't
-pub breaks_next : (x : Explanations) (nexus : Nexus) (requests : List ClientRequest) (i : ℕ) (request : ClientRequest) (f : FrameValue)
+pub breaks_next : (pr : Profile) (x : Explanations) (nexus : Nexus) (requests : List ClientRequest) (i : ℕ) (request : ClientRequest) (f : FrameValue)
     (fault : ClientSessionFault) (before middle after : Streams) (rest : List ℕ)
     → i < length requests → request ≡ get_or requests i request → f ≡ frame_of (request_value request)
-    → Talks x (Login nexus ∷ asks (take i requests)) before middle rest → Stops fault f rest middle after
-    → Breaks x nexus (request_values requests) fault before after
-breaks_next x nexus requests i request f fault before middle after rest lt is framed so stop = record {
+    → Talks pr x (Login nexus ∷ asks (take i requests)) before middle rest → Stops pr fault f rest middle after
+    → Breaks pr x nexus (request_values requests) fault before after
+breaks_next pr x nexus requests i request f fault before middle after rest lt is framed so stop = record {
   done = Login nexus ∷ asks (take i requests);
   next = frame_of (request_value request);
   others = asks (drop (suc i) requests) ++ Logout ∷ [];
@@ -85,14 +86,14 @@ breaks_next x nexus requests i request f fault before middle after rest lt is fr
   middle = middle;
   frames = ap (λ (fs : List FrameValue). Login nexus ∷ fs) (asks_split requests i request lt is);
   talked = so;
-  stopped = subst (λ (g : FrameValue). Stops fault g rest middle after) framed stop;
+  stopped = subst (λ (g : FrameValue). Stops pr fault g rest middle after) framed stop;
 }
 
 -- LOGOUT isn't
-pub breaks_last : (x : Explanations) (nexus : Nexus) (requests : List ClientRequest) (fault : ClientSessionFault)
-    (before middle after : Streams) (rest : List ℕ) → Talks x (Login nexus ∷ asks requests) before middle rest
-    → Stops fault Logout rest middle after → Breaks x nexus (request_values requests) fault before after
-breaks_last x nexus requests fault before middle after rest so stop = record {
+pub breaks_last : (pr : Profile) (x : Explanations) (nexus : Nexus) (requests : List ClientRequest) (fault : ClientSessionFault)
+    (before middle after : Streams) (rest : List ℕ) → Talks pr x (Login nexus ∷ asks requests) before middle rest
+    → Stops pr fault Logout rest middle after → Breaks pr x nexus (request_values requests) fault before after
+breaks_last pr x nexus requests fault before middle after rest so stop = record {
   done = Login nexus ∷ asks requests;
   next = Logout;
   others = [];
@@ -104,18 +105,18 @@ breaks_last x nexus requests fault before middle after rest so stop = record {
 }
 
 -- LOGOUT is answered
-pub talks_last : (x : Explanations) (nexus : Nexus) (requests : List ClientRequest) (before middle after : Streams) (rest rest' : List ℕ)
-    → Talks x (Login nexus ∷ asks requests) before middle rest → Exchanges x Logout rest rest' middle after
-    → Talks x (frames_of nexus (request_values requests)) before after rest'
-talks_last x nexus requests before middle after rest rest' so one =
-    talks_on x (Login nexus ∷ asks requests) Logout before middle after rest rest' so one
+pub talks_last : (pr : Profile) (x : Explanations) (nexus : Nexus) (requests : List ClientRequest) (before middle after : Streams) (rest rest' : List ℕ)
+    → Talks pr x (Login nexus ∷ asks requests) before middle rest → Exchanges pr x Logout rest rest' middle after
+    → Talks pr x (frames_of nexus (request_values requests)) before after rest'
+talks_last pr x nexus requests before middle after rest rest' so one =
+    talks_on pr x (Login nexus ∷ asks requests) Logout before middle after rest rest' so one
 
 -- all requests were sent
-pub talks_all : (x : Explanations) (nexus : Nexus) (requests : List ClientRequest) (i : ℕ) (before after : Streams) (rest : List ℕ)
-    → length requests ≤ i → Talks x (Login nexus ∷ asks (take i requests)) before after rest
-    → Talks x (Login nexus ∷ asks requests) before after rest
-talks_all x nexus requests i before after rest end so =
-    subst (λ (rs : List ClientRequest). Talks x (Login nexus ∷ asks rs) before after rest) (take_all i requests end) so
+pub talks_all : (pr : Profile) (x : Explanations) (nexus : Nexus) (requests : List ClientRequest) (i : ℕ) (before after : Streams) (rest : List ℕ)
+    → length requests ≤ i → Talks pr x (Login nexus ∷ asks (take i requests)) before after rest
+    → Talks pr x (Login nexus ∷ asks requests) before after rest
+talks_all pr x nexus requests i before after rest end so =
+    subst (λ (rs : List ClientRequest). Talks pr x (Login nexus ∷ asks rs) before after rest) (take_all i requests end) so
 
 pub on_ok : {X E : Type 0} (r : Result X E) (P Q : Type 0) → (P → Q) → OnOk r P → OnOk r Q
 on_ok (Ok x) P Q f h = f h
@@ -126,8 +127,8 @@ if_err (Ok x) P Q f h = tt
 if_err (Err e) P Q f h = f e h
 
 -- the requests of a script, each within the limits
-pub each_within : (requests : List ClientRequest) → All IsWithinLimits (request_values requests)
-    → All (λ (r : ClientRequest). IsWithinLimits (request_value r)) requests
-each_within requests h k d lt =
-    subst IsWithinLimits (get_or-map request_value requests k d (request_value d) lt)
+pub each_within : (pr : Profile) (requests : List ClientRequest) → All (IsWithinLimits pr) (request_values requests)
+    → All (λ (r : ClientRequest). IsWithinLimits pr (request_value r)) requests
+each_within pr requests h k d lt =
+    subst (IsWithinLimits pr) (get_or-map request_value requests k d (request_value d) lt)
     (h k (request_value d) (omega (arith, lt, length-map requests request_value)))

@@ -4,6 +4,7 @@ use Rattle.std.proofs.Common.{◌∙◌, append_assoc, append-nil}
 use Rattle.std.specs.Io.KnownBytes.{Consumes, Appends}
 use Rattle.std.proofs.KnownBytes.{Consumes-nil, Consumes-trans, Appends-nil, Appends-trans}
 use Rattle.std.proofs.lemmas.List.Concat.{flat_map-append}
+use Rattle.scsi_cdb.specs.declared.profile.Profile.{Profile}
 use Rattle.frames.specs.Frames.{FrameValue}
 use Rattle.frames.specs.Replies.{ReplyFrameValue}
 use Rattle.frames.specs.ParsedReplies.{Partial, Complete, parsed_reply}
@@ -14,8 +15,8 @@ use Rattle.client_session.specs.Talking.{IsReplyTo, AreRepliesTo, Tells, told_te
 use Rattle.client_session.specs.Waiting.{Answers, Exchanges}
 
 -- nothing yet
-pub talks_none : (x : Explanations) (before : Streams) → Talks x [] before before []
-talks_none x before = record {
+pub talks_none : (pr : Profile) (x : Explanations) (before : Streams) → Talks pr x [] before before []
+talks_none pr x before = record {
   read = [];
   replies = [];
   consumed = Consumes-nil before.left;
@@ -29,22 +30,22 @@ whole_is_more : (r : ReplyFrameValue) (count : ℕ) → Complete r count ≡ Par
 whole_is_more r count e = absurd cc
 
 -- one more reply, some of whose bytes were read before
-tells_on : (bytes : List ℕ) (replies : List ReplyFrameValue) (rest more piece rest' : List ℕ) (r : ReplyFrameValue)
-    → Tells bytes replies rest → rest ++ more ≡ piece ++ rest' → parsed_reply (rest ++ more) ≡ Complete r (length piece)
-    → Tells (bytes ++ more) (replies ++ r ∷ []) rest'
-tells_on bytes [] rest more piece rest' r so split parsed = (
+tells_on : (pr : Profile) (bytes : List ℕ) (replies : List ReplyFrameValue) (rest more piece rest' : List ℕ) (r : ReplyFrameValue)
+    → Tells pr bytes replies rest → rest ++ more ≡ piece ++ rest' → parsed_reply pr (rest ++ more) ≡ Complete r (length piece)
+    → Tells pr (bytes ++ more) (replies ++ r ∷ []) rest'
+tells_on pr bytes [] rest more piece rest' r so split parsed = (
   piece,
   rest',
   ap (λ (b : List ℕ). b ++ more) (sym so) ∙ split,
-  ap (λ (b : List ℕ). parsed_reply (b ++ more)) (sym so) ∙ parsed,
+  ap (λ (b : List ℕ). parsed_reply pr (b ++ more)) (sym so) ∙ parsed,
   refl,
 )
-tells_on bytes (q ∷ replies) rest more piece rest' r so split parsed = (
+tells_on pr bytes (q ∷ replies) rest more piece rest' r so split parsed = (
   so.0,
   so.1 ++ more,
   ap (λ (b : List ℕ). b ++ more) so.2 ∙ append_assoc so.0 so.1 more,
-  reply_stays bytes more (λ e. whole_is_more q (length so.0) (sym so.3 ∙ e)) ∙ so.3,
-  tells_on so.1 replies rest more piece rest' r so.4 split parsed,
+  reply_stays pr bytes more (λ e. whole_is_more q (length so.0) (sym so.3 ∙ e)) ∙ so.3,
+  tells_on pr so.1 replies rest more piece rest' r so.4 split parsed,
 )
 
 replies_on : (frames : List FrameValue) (replies : List ReplyFrameValue) (f : FrameValue) (r : ReplyFrameValue)
@@ -58,46 +59,46 @@ stream_on : (frames : List FrameValue) (f : FrameValue) → stream_of frames ++ 
 stream_on frames f =
     sym (flat_map-append frame_bytes frames (f ∷ []) ∙ ap (λ (t : List ℕ). stream_of frames ++ t) (append-nil (frame_bytes f)))
 
-text_on : (x : Explanations) (frames : List FrameValue) (replies : List ReplyFrameValue) (f : FrameValue) (r : ReplyFrameValue)
+text_on : (pr : Profile) (x : Explanations) (frames : List FrameValue) (replies : List ReplyFrameValue) (f : FrameValue) (r : ReplyFrameValue)
     → AreRepliesTo frames replies
-    → session_text x frames replies ++ told_text x f r ≡ session_text x (frames ++ f ∷ []) (replies ++ r ∷ [])
-text_on x [] [] f r so = sym (append-nil (told_text x f r))
-text_on x [] (q ∷ replies) f r so = absurd so
-text_on x (g ∷ frames) [] f r so = absurd so
-text_on x (g ∷ frames) (q ∷ replies) f r so =
-    append_assoc (told_text x g q) (session_text x frames replies) (told_text x f r)
-    ∙ ap (λ (t : List ℕ). told_text x g q ++ t) (text_on x frames replies f r so.1)
+    → session_text pr x frames replies ++ told_text pr x f r ≡ session_text pr x (frames ++ f ∷ []) (replies ++ r ∷ [])
+text_on pr x [] [] f r so = sym (append-nil (told_text pr x f r))
+text_on pr x [] (q ∷ replies) f r so = absurd so
+text_on pr x (g ∷ frames) [] f r so = absurd so
+text_on pr x (g ∷ frames) (q ∷ replies) f r so =
+    append_assoc (told_text pr x g q) (session_text pr x frames replies) (told_text pr x f r)
+    ∙ ap (λ (t : List ℕ). told_text pr x g q ++ t) (text_on pr x frames replies f r so.1)
 
 -- one frame more
-pub talks_on : (x : Explanations) (frames : List FrameValue) (f : FrameValue) (before middle after : Streams) (rest rest' : List ℕ)
-    → Talks x frames before middle rest → Exchanges x f rest rest' middle after → Talks x (frames ++ f ∷ []) before after rest'
-talks_on x frames f before middle after rest rest' so one = record {
+pub talks_on : (pr : Profile) (x : Explanations) (frames : List FrameValue) (f : FrameValue) (before middle after : Streams) (rest rest' : List ℕ)
+    → Talks pr x frames before middle rest → Exchanges pr x f rest rest' middle after → Talks pr x (frames ++ f ∷ []) before after rest'
+talks_on pr x frames f before middle after rest rest' so one = record {
   read = so.read ++ one.read;
   replies = so.replies ++ one.reply ∷ [];
   consumed = Consumes-trans _ _ _ _ _ so.consumed one.consumed;
-  told = tells_on so.read so.replies rest one.read one.piece rest' one.reply so.told one.split one.parsed;
+  told = tells_on pr so.read so.replies rest one.read one.piece rest' one.reply so.told one.split one.parsed;
   answered = replies_on frames so.replies f one.reply so.answered one.answered;
   sent =
       subst (λ (b : List ℕ). Appends before.written after.written b) (stream_on frames f) (Appends-trans _ _ _ _ _ so.sent one.sent);
   lines =
-      subst (λ (b : List ℕ). Appends before.shown after.shown b) (text_on x frames so.replies f one.reply so.answered)
+      subst (λ (b : List ℕ). Appends before.shown after.shown b) (text_on pr x frames so.replies f one.reply so.answered)
       (Appends-trans _ _ _ _ _ so.lines one.line);
 }
 
 -- one frame and its reply, from what was read, taken and written for it
-pub exchanged : (x : Explanations) (frame : FrameValue) (pending read read_buffer rest line0 line : List ℕ) (count : ℕ) (before after : Streams)
-    → read_buffer ≡ pending ++ read → Consumes before.left after.left read → Answers x frame (parsed_reply read_buffer) count line0 line
+pub exchanged : (pr : Profile) (x : Explanations) (frame : FrameValue) (pending read read_buffer rest line0 line : List ℕ) (count : ℕ) (before after : Streams)
+    → read_buffer ≡ pending ++ read → Consumes before.left after.left read → Answers pr x frame (parsed_reply pr read_buffer) count line0 line
     → count ≤ length read_buffer → rest ≡ drop count read_buffer → line0 ≡ [] → Appends before.written after.written (frame_bytes frame)
-    → Appends before.shown after.shown line → Exchanges x frame pending rest before after
-exchanged x frame pending read read_buffer rest line0 line count before after came took answer within cut none wrote put = record {
+    → Appends before.shown after.shown line → Exchanges pr x frame pending rest before after
+exchanged pr x frame pending read read_buffer rest line0 line count before after came took answer within cut none wrote put = record {
   read = read;
   reply = answer.0;
   piece = take count read_buffer;
   consumed = took;
   split = sym came ∙ sym (take-append-drop count read_buffer) ∙ ap (λ (l : List ℕ). take count read_buffer ++ l) (sym cut);
-  parsed = ap parsed_reply (sym came) ∙ answer.1 ∙ ap (λ (n : ℕ). Complete answer.0 n) (sym (length-take-le count read_buffer within));
+  parsed = ap (parsed_reply pr) (sym came) ∙ answer.1 ∙ ap (λ (n : ℕ). Complete answer.0 n) (sym (length-take-le count read_buffer within));
   answered = answer.2;
   sent = wrote;
   line =
-      subst (λ (l : List ℕ). Appends before.shown after.shown l) (answer.3 ∙ ap (λ (l : List ℕ). l ++ told_text x frame answer.0) none) put;
+      subst (λ (l : List ℕ). Appends before.shown after.shown l) (answer.3 ∙ ap (λ (l : List ℕ). l ++ told_text pr x frame answer.0) none) put;
 }

@@ -1,5 +1,6 @@
 -- Worked rows: what each fault says, the lines of replies, which reply goes with which frame, and a session byte by byte.
 use Rattle.std.specs.Prelude.{◌≡◌, ℕ, List, [], ◌∷◌, ◌++◌, replicate, Some, None, codes}
+use Rattle.scsi_cdb.specs.declared.profile.Profile.TheVariants.{Spec}
 use Rattle.scsi_sense.specs.Conditions.{sense_for}
 use Rattle.scsi_sense.specs.declared.condition.Condition.TheVariants.{PowerOnOrResetOccurred}
 use Rattle.scsi_sense.specs.declared.status.Status.TheVariants.{Good, CheckCondition, Busy, ReservationConflict}
@@ -46,21 +47,21 @@ abbrev pub read_keys : List ℕ
 read_keys = 0x5E ∷ replicate 6 0 ++ 0 ∷ 0xFF ∷ 0 ∷ []
 
 pub record RepliesTold : Type 0 where
-  pub sense : told_text words.Off test (CommandReply CheckCondition (Some (sense_for PowerOnOrResetOccurred)) 1 [])
+  pub sense : told_text Spec words.Off test (CommandReply CheckCondition (Some (sense_for PowerOnOrResetOccurred)) 1 [])
       ≡ line (codes "02 700006000000000a00000000290000000000 -")
-  pub payload : told_text words.Off test (CommandReply Good None 258 (0x61 ∷ 0x62 ∷ [])) ≡ line (codes "00 - 6162")
-  pub conflict : told_text words.Off test (CommandReply ReservationConflict None 3 []) ≡ line (codes "18 - -")
+  pub payload : told_text Spec words.Off test (CommandReply Good None 258 (0x61 ∷ 0x62 ∷ [])) ≡ line (codes "00 - 6162")
+  pub conflict : told_text Spec words.Off test (CommandReply ReservationConflict None 3 []) ≡ line (codes "18 - -")
   -- a status alone
-  pub reset : told_text words.Off (Reset 1) (ResetReply Busy) ≡ line (codes "08 - -")
-  pub login : told_text words.Off (Login a) (LoginReply Accepted) ≡ []
-  pub logout : told_text words.Off Logout LogoutReply ≡ []
+  pub reset : told_text Spec words.Off (Reset 1) (ResetReply Busy) ≡ line (codes "08 - -")
+  pub login : told_text Spec words.Off (Login a) (LoginReply Accepted) ≡ []
+  pub logout : told_text Spec words.Off Logout LogoutReply ≡ []
   -- and with words
-  pub reset_said : told_text words.On (Reset 1) (ResetReply Busy) ≡ line (codes "08 - -") ++ line (codes "# BUSY")
-  pub keys_said : told_text words.On (Command 1 read_keys []) (CommandReply Good None 258 (0 ∷ 0 ∷ 0 ∷ 1 ∷ 0 ∷ 0 ∷ 0 ∷ 0 ∷ []))
+  pub reset_said : told_text Spec words.On (Reset 1) (ResetReply Busy) ≡ line (codes "08 - -") ++ line (codes "# BUSY")
+  pub keys_said : told_text Spec words.On (Command 1 read_keys []) (CommandReply Good None 258 (0 ∷ 0 ∷ 0 ∷ 1 ∷ 0 ∷ 0 ∷ 0 ∷ 0 ∷ []))
       ≡ line (codes "00 - 0000000100000000") ++ line (codes "# GOOD, generation 1, no keys")
-  pub login_said : told_text words.On (Login a) (LoginReply Accepted) ≡ []
+  pub login_said : told_text Spec words.On (Login a) (LoginReply Accepted) ≡ []
   -- each reply behind the one before
-  pub session : session_text words.On (Login a ∷ test ∷ Logout ∷ []) (LoginReply Accepted ∷ CommandReply Good None 1 [] ∷ LogoutReply ∷ [])
+  pub session : session_text Spec words.On (Login a ∷ test ∷ Logout ∷ []) (LoginReply Accepted ∷ CommandReply Good None 1 [] ∷ LogoutReply ∷ [])
       ≡ line (codes "00 - -") ++ line (codes "# GOOD")
   pub accepted : IsReplyTo (Login a) (LoginReply Accepted)
   pub already_connected : ¬ IsReplyTo (Login a) (LoginReply AlreadyConnected)
@@ -81,6 +82,6 @@ replies = (0 ∷ 0 ∷ 0 ∷ 2 ∷ 0x81 ∷ 0 ∷ []) ++ first_contact ++ 0 ∷ 
 pub record SessionTold : Type 0 where
   pub sent : stream_of (frames_of a (host.Command 0 (replicate 6 0) [] ∷ [])) ≡ login_by 1 ++ test_unit_ready ++ logout
   -- the server's next bytes stay unread, and what was there before stays
-  pub whole : Converses words.Off a script (streams (Some (replies ++ 7 ∷ [])) (Some (1 ∷ [])) (Some (codes "before ")))
+  pub whole : Converses Spec words.Off a script (streams (Some (replies ++ 7 ∷ [])) (Some (1 ∷ [])) (Some (codes "before ")))
       (streams (Some (7 ∷ [])) (Some (1 ∷ login_by 1 ++ test_unit_ready ++ logout))
       (Some (codes "before " ++ line (codes "02 700006000000000a00000000290000000000 -"))))

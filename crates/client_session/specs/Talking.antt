@@ -1,9 +1,8 @@
--- A host's session: what is sent, what is read, and the lines of the replies.
+-- A host's session with a library of a profile: what is sent, what is read, and the lines of the replies.
 use Rattle.std.specs.Prelude.{◌≡◌, ℕ, List, [], ◌∷◌, ◌++◌, map, length, Option, None, Ok}
 use Rattle.std.specs.List.{flat_map}
 use Rattle.std.specs.Io.KnownBytes.{Consumes, Appends}
 use Rattle.scsi_cdb.specs.declared.profile.Profile.{Profile}
-use Rattle.scsi_cdb.specs.declared.profile.Profile.TheVariants.{Spec}
 use Rattle.scsi_nexus.specs.declared.nexus.Nexus.{Nexus}
 use Rattle.frames.specs.declared.reply_frame.LoginAnswer.TheVariants.{Accepted}
 use Rattle.frames.specs.Frames.{FrameValue, Login, Command, Reset, Logout}
@@ -44,27 +43,23 @@ AreRepliesTo (frame ∷ frames) (reply ∷ replies) = IsReplyTo frame reply × A
 AreRepliesTo _ _ = ⊥
 
 -- bytes begin with these replies, one behind another, and this is the rest
-abbrev pub Tells : List ℕ → List ReplyFrameValue → (rest : List ℕ) → Type 0
-Tells bytes [] rest = rest ≡ bytes
-Tells bytes (reply ∷ replies) rest =
-    (piece others : List ℕ) × (bytes ≡ piece ++ others) × (parsed_reply bytes ≡ Complete reply (length piece)) × Tells others replies rest
-
--- the profile of the libraries that a host talks to
-abbrev pub profile_of_libraries : Profile
-profile_of_libraries = Spec
+abbrev pub Tells : Profile → List ℕ → List ReplyFrameValue → (rest : List ℕ) → Type 0
+Tells profile bytes [] rest = rest ≡ bytes
+Tells profile bytes (reply ∷ replies) rest =
+    (piece others : List ℕ) × (bytes ≡ piece ++ others) × (parsed_reply profile bytes ≡ Complete reply (length piece)) × Tells profile others replies rest
 
 -- what is written of the reply to a frame, as a replay writes it; of those to LOGIN and LOGOUT nothing is
-abbrev pub told_text : Explanations → FrameValue → ReplyFrameValue → List ℕ
-told_text explanations (Command lun cdb bytes) (CommandReply status sense number payload) =
-    answer_text explanations profile_of_libraries lun cdb status sense payload
-told_text explanations (Reset lun) (ResetReply status) = answer_text explanations profile_of_libraries lun [] status None []
-told_text explanations _ _ = []
+abbrev pub told_text : Profile → Explanations → FrameValue → ReplyFrameValue → List ℕ
+told_text profile explanations (Command lun cdb bytes) (CommandReply status sense number payload) =
+    answer_text explanations profile lun cdb status sense payload
+told_text profile explanations (Reset lun) (ResetReply status) = answer_text explanations profile lun [] status None []
+told_text profile explanations _ _ = []
 
 -- and of the replies to frames, in their order
-abbrev pub session_text : Explanations → List FrameValue → List ReplyFrameValue → List ℕ
-session_text explanations (frame ∷ frames) (reply ∷ replies) =
-    told_text explanations frame reply ++ session_text explanations frames replies
-session_text explanations _ _ = []
+abbrev pub session_text : Profile → Explanations → List FrameValue → List ReplyFrameValue → List ℕ
+session_text profile explanations (frame ∷ frames) (reply ∷ replies) =
+    told_text profile explanations frame reply ++ session_text profile explanations frames replies
+session_text profile explanations _ _ = []
 
 -- what is left to read from the server, what was written to it, and what was shown of its replies
 pub record Streams : Type 0 where
@@ -77,18 +72,18 @@ streams left written shown = record { left = left; written = written; shown = sh
 
 -- these frames were sent, a reply to each of them was read, in their order, and the lines of the replies were written, with their
 -- words where they are wanted; the rest is what was read behind them
-pub record Talks (explanations : Explanations) (frames : List FrameValue) (before after : Streams) (rest : List ℕ) : Type 0 where
+pub record Talks (profile : Profile) (explanations : Explanations) (frames : List FrameValue) (before after : Streams) (rest : List ℕ) : Type 0 where
   pub read : List ℕ
   pub replies : List ReplyFrameValue
   pub consumed : Consumes before.left after.left read
-  pub told : Tells read replies rest
+  pub told : Tells profile read replies rest
   pub answered : AreRepliesTo frames replies
   pub sent : Appends before.written after.written (stream_of frames)
-  pub lines : Appends before.shown after.shown (session_text explanations frames replies)
+  pub lines : Appends before.shown after.shown (session_text profile explanations frames replies)
 
 -- a session whole
-pub record Converses (explanations : Explanations) (nexus : Nexus) (text : List ℕ) (before after : Streams) : Type 0 where
+pub record Converses (profile : Profile) (explanations : Explanations) (nexus : Nexus) (text : List ℕ) (before after : Streams) : Type 0 where
   pub requests : List ClientRequestValue
   pub rest : List ℕ
-  pub script : requests_in text ≡ Ok requests
-  pub talked : Talks explanations (frames_of nexus requests) before after rest
+  pub script : requests_in profile text ≡ Ok requests
+  pub talked : Talks profile explanations (frames_of nexus requests) before after rest

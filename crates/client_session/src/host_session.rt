@@ -1,8 +1,10 @@
-ghost use Rattle.std.specs.Prelude.{◌≡◌, ◌≤◌, ℕ, [], All, Err, IfErr, OnOk};
+ghost use Rattle.std.specs.Prelude.{◌≡◌, ◌≤◌, ℕ, List, [], All, Err, IfErr, OnOk};
 ghost use Rattle.std.specs.Io.KnownBytes.{Keeps};
+ghost use Rattle.frames.specs.Limits.{reply_size_limit};
 ghost use Rattle.frames.specs.Sending.{IsSendable};
 ghost use Rattle.frames.specs.Views.{frame_value};
 ghost use Rattle.script_input.specs.declared.line_fault.LineFault.{LineFault};
+ghost use Rattle.scsi_cdb.specs.declared.profile.Profile.{Profile};
 ghost use Rattle.script_lines.specs.Requests.{IsWithinLimits, request_value};
 ghost use Rattle.script_lines.specs.Script.{request_values, requests_in};
 ghost use Rattle.client_session.specs.Talking.{Converses, frame_of, frames_of, streams, Talks};
@@ -11,18 +13,19 @@ ghost use Rattle.client_session.specs.Waiting.{Breaks, BreaksWithin, Exchanges, 
 use crate::awaiting::expect_reply;
 use crate::client_session_fault::ClientSessionFault;
 use crate::exchanging::{send, take_reply};
-use frames::{FrameBuffer, FrameRef};
+use frames::{FRAME_BUFFER, FrameRef, HOSTS_FRAME_BUFFER};
 use output_lines::{Explanations, write_out};
+use read_buffer::ReadBuffer;
 use script_lines::{ClientRequest, requests_of};
+use scsi_cdb::Profile;
 use scsi_nexus::Nexus;
 use std::alloc::Global;
 use std::io::{Read, Write};
 
-/// The frame of a request.
+/// The frame of a request. A library of a profile may be sent it where the request is within the limits of that profile.
 fn frame_of(request: &ClientRequest) -> FrameRef<'_>
-    requires { IsWithinLimits (request_value request.now) }
     ensures frame { frame_value result ≡ frame_of (request_value request.now) }
-    ensures sendable { IsSendable (frame_value result) }
+    ensures sendable { (p : Profile) → IsWithinLimits p (request_value request.now) → IsSendable p (frame_value result) }
 {
     match request {
         ClientRequest::Command { lun, cdb, bytes } => FrameRef::Command {
@@ -38,6 +41,8 @@ fn frame_of(request: &ClientRequest) -> FrameRef<'_>
 #[derive(Clone, Copy)]
 pub struct HostSettings {
     pub nexus: Nexus,
+    /// That of the library.
+    pub profile: Profile,
     /// Whether a line is written behind each reply's that says it in words.
     pub explanations: Explanations,
     /// How many reads there may be.
@@ -46,18 +51,20 @@ pub struct HostSettings {
 
 /// A session as it is held with a server.
 #[derive(Drop)]
-struct HostSession {
+struct HostSession<const ROOM: usize> {
     nexus: Nexus,
+    /// That of the library.
+    profile: Profile,
     explanations: Explanations,
     /// What came of replies and isn't taken yet.
-    read_buffer: FrameBuffer,
+    read_buffer: ReadBuffer<ROOM>,
     /// The frame that is sent, or the lines that are written.
     buffer: Vec<u8>,
     /// How many reads there may be yet.
     turns: u64,
 }
 
-impl HostSession {
+impl<const ROOM: usize> HostSession<ROOM> {
     /// Sends a frame, waits for its reply and writes what is written of it.
     fn exchange_frame<R: Read, W: Write, O: Write>(
         &mut self,
@@ -66,20 +73,28 @@ impl HostSession {
         writer: &mut W,
         out: &mut O,
     ) -> Result<(), ClientSessionFault>
-        requires { IsSendable (frame_value frame.now) }
+        requires frame { IsSendable self.old.profile (frame_value frame.now) }
+        requires room { reply_size_limit self.old.profile ≤ ROOM }
+        ensures profile { self.new.profile ≡ self.old.profile }
         ensures explanations { self.new.explanations ≡ self.old.explanations }
-        ensures ok { OnOk result (Exchanges self.old.explanations (frame_value frame.now) self.old.read_buffer self.new.read_buffer
+        ensures ok { OnOk result (Exchanges self.old.profile self.old.explanations (frame_value frame.now) self.old.read_buffer self.new.read_buffer
             (streams (R.remaining reader.old) (W.contents writer.old) (O.contents out.old))
             (streams (R.remaining reader.new) (W.contents writer.new) (O.contents out.new))) }
-        ensures err { IfErr result (λ fault. Stops fault (frame_value frame.now) self.old.read_buffer
+        ensures err { IfErr result (λ fault. Stops self.old.profile fault (frame_value frame.now) self.old.read_buffer
             (streams (R.remaining reader.old) (W.contents writer.old) (O.contents out.old))
             (streams (R.remaining reader.new) (W.contents writer.new) (O.contents out.new))) }
     {
-        send(frame, &mut self.buffer, writer)?;
-        expect_reply(&mut self.read_buffer, reader, &mut self.turns)?;
+        send(self.profile, frame, &mut self.buffer, writer)?;
+        expect_reply(self.profile, &mut self.read_buffer, reader, &mut self.turns)?;
         self.buffer.clear();
         let pending = self.read_buffer.pending();
-        let count = take_reply(self.explanations, frame, pending, &mut self.buffer)?;
+        let count = take_reply(
+            self.profile,
+            self.explanations,
+            frame,
+            pending,
+            &mut self.buffer,
+        )?;
         self.read_buffer.consume(count);
         match write_out(out, self.buffer.as_slice()) {
             Ok(()) => Ok(()),
@@ -97,12 +112,13 @@ impl HostSession {
     ) -> Result<(), ClientSessionFault>
         requires first_port { 1 ≤ self.old.nexus.port }
         requires last_port { self.old.nexus.port ≤ 4 }
-        requires within { All (λ request. IsWithinLimits (request_value request)) requests.now }
+        requires within { All (λ request. IsWithinLimits self.old.profile (request_value request)) requests.now }
         requires nothing_pending { self.old.read_buffer ≡ [] }
-        ensures ok { OnOk result (Talks self.old.explanations (frames_of self.old.nexus (request_values requests.now))
+        requires room { reply_size_limit self.old.profile ≤ ROOM }
+        ensures ok { OnOk result (Talks self.old.profile self.old.explanations (frames_of self.old.nexus (request_values requests.now))
             (streams (R.remaining reader.old) (W.contents writer.old) (O.contents out.old))
             (streams (R.remaining reader.new) (W.contents writer.new) (O.contents out.new)) self.new.read_buffer) }
-        ensures err { IfErr result (λ fault. Breaks self.old.explanations self.old.nexus (request_values requests.now) fault
+        ensures err { IfErr result (λ fault. Breaks self.old.profile self.old.explanations self.old.nexus (request_values requests.now) fault
             (streams (R.remaining reader.old) (W.contents writer.old) (O.contents out.old))
             (streams (R.remaining reader.new) (W.contents writer.new) (O.contents out.new))) }
     {
@@ -121,6 +137,39 @@ impl HostSession {
         let logout = FrameRef::Logout;
         self.exchange_frame(&logout, reader, writer, out)
     }
+}
+
+/// The session of requests that are within the limits, with a buffer of that size for what comes of replies.
+fn send_requests<const ROOM: usize, R: Read, W: Write, O: Write>(
+    alloc: Global,
+    settings: HostSettings,
+    read_buffer: ReadBuffer<ROOM>,
+    requests: &[ClientRequest],
+    reader: &mut R,
+    writer: &mut W,
+    out: &mut O,
+) -> Result<(), ClientSessionFault>
+    requires first_port { 1 ≤ settings.nexus.port }
+    requires last_port { settings.nexus.port ≤ 4 }
+    requires within { All (λ request. IsWithinLimits settings.profile (request_value request)) requests.now }
+    requires empty { read_buffer ≡ [] }
+    requires room { reply_size_limit settings.profile ≤ ROOM }
+    ensures ok { OnOk result ((rest : List ℕ) × Talks settings.profile settings.explanations (frames_of settings.nexus (request_values requests.now))
+        (streams (R.remaining reader.old) (W.contents writer.old) (O.contents out.old))
+        (streams (R.remaining reader.new) (W.contents writer.new) (O.contents out.new)) rest) }
+    ensures err { IfErr result (λ fault. Breaks settings.profile settings.explanations settings.nexus (request_values requests.now) fault
+        (streams (R.remaining reader.old) (W.contents writer.old) (O.contents out.old))
+        (streams (R.remaining reader.new) (W.contents writer.new) (O.contents out.new))) }
+{
+    let mut session = HostSession {
+        nexus: settings.nexus,
+        profile: settings.profile,
+        explanations: settings.explanations,
+        read_buffer,
+        buffer: Vec::new(alloc),
+        turns: settings.turns,
+    };
+    session.exchange_frames(requests, reader, writer, out)
 }
 
 /// A host's session: logs in as a nexus, sends the frames of a host's script one after another, each behind the reply to
@@ -144,23 +193,26 @@ pub fn run_session<R: Read, W: Write, O: Write>(
 ) -> Result<(), ClientSessionFault>
     requires first_port { 1 ≤ settings.nexus.port }
     requires last_port { settings.nexus.port ≤ 4 }
-    ensures ok { OnOk result (Converses settings.explanations settings.nexus script.now
+    ensures ok { OnOk result (Converses settings.profile settings.explanations settings.nexus script.now
         (streams (R.remaining reader.old) (W.contents writer.old) (O.contents out.old))
         (streams (R.remaining reader.new) (W.contents writer.new) (O.contents out.new))) }
-    ensures line { (n : ℕ) (f : LineFault) → result ≡ Err (ClientSessionFault.Line n f) → requests_in script.now ≡ Err (n, f) }
+    ensures line { (n : ℕ) (f : LineFault) → result ≡ Err (ClientSessionFault.Line n f) → requests_in settings.profile script.now ≡ Err (n, f) }
     ensures before { (n : ℕ) (f : LineFault) → result ≡ Err (ClientSessionFault.Line n f) → Keeps (R.remaining reader.old) (R.remaining reader.new)
         × Keeps (W.contents writer.old) (W.contents writer.new) × Keeps (O.contents out.old) (O.contents out.new) }
-    ensures session { IfErr result (λ fault. IsOfSession fault → BreaksWithin settings.explanations settings.nexus script.now fault
+    ensures session { IfErr result (λ fault. IsOfSession fault → BreaksWithin settings.profile settings.explanations settings.nexus script.now fault
         (streams (R.remaining reader.old) (W.contents writer.old) (O.contents out.old))
         (streams (R.remaining reader.new) (W.contents writer.new) (O.contents out.new))) }
 {
-    let requests = requests_of(alloc, script)?;
-    let mut session = HostSession {
-        nexus: settings.nexus,
-        explanations: settings.explanations,
-        read_buffer: FrameBuffer::new(alloc)?,
-        buffer: Vec::new(alloc),
-        turns: settings.turns,
-    };
-    session.exchange_frames(&requests, reader, writer, out)
+    let requests = requests_of(alloc, settings.profile, script)?;
+    let asked = requests.as_slice();
+    match settings.profile {
+        Profile::Spec => {
+            let read_buffer: ReadBuffer<FRAME_BUFFER> = ReadBuffer::new(alloc)?;
+            send_requests(alloc, settings, read_buffer, asked, reader, writer, out)
+        }
+        Profile::Hosts => {
+            let read_buffer: ReadBuffer<HOSTS_FRAME_BUFFER> = ReadBuffer::new(alloc)?;
+            send_requests(alloc, settings, read_buffer, asked, reader, writer, out)
+        }
+    }
 }

@@ -78,7 +78,7 @@ const COMMANDS: [CommandRow; 6] = [
         name: "client",
         about: "Sends the script on standard input to a served library as one host, and prints a line for each reply",
         examples: CLIENT_EXAMPLE,
-        tables: &[&CLIENT, &EXPLAIN],
+        tables: &[&CLIENT, &PROFILE_ALONE, &EXPLAIN],
     },
     CommandRow {
         name: "status",

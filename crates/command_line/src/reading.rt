@@ -413,7 +413,12 @@ fn client_options_of(alloc: Global, command: &ArgMatches) -> Result<ClientOption
         .clamp(1, TARGET_PORTS);
     let nexus = nexus_of(command.get_str("sas").unwrap_or(""), port)?;
     let socket = String::from_str(alloc, command.get_str("socket").unwrap_or(""))?;
-    Ok(ClientOptions { socket, nexus })
+    let profile = profile_in(alloc, command)?.unwrap_or(Profile::Spec);
+    Ok(ClientOptions {
+        socket,
+        nexus,
+        profile,
+    })
 }
 
 /// The class of a profile's commands that is asked for by its name, if one is.

@@ -140,4 +140,6 @@ pub struct ClientOptions {
     /// The path of the socket's file.
     pub socket: String,
     pub nexus: Nexus,
+    /// That of the library.
+    pub profile: Profile,
 }

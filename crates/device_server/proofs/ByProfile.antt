@@ -18,7 +18,7 @@ use Rattle.scsi_cdb.specs.declared.request.Request.TheVariants as request
 use Rattle.scsi_sense.specs.declared.condition.Condition.{Condition}
 use Rattle.scsi_sense.specs.declared.condition.Condition.TheVariants.{InvalidFieldInCdb, InvalidFieldInParameterList, ParameterListLengthError}
 use Rattle.scsi_sense.specs.declared.status.Status.TheVariants.{Good}
-use Rattle.tape_medium.specs.Limits.{block_limit}
+use Rattle.tape_medium.specs.Limits.{most_block}
 use Rattle.inquiry_data.specs.declared.unit_identity.UnitIdentity.{UnitIdentity}
 use Rattle.mode_pages.specs.DriveData.{answered, drive_fault, drive_data}
 use Rattle.mode_pages.specs.Lists.{header_length}
@@ -172,11 +172,11 @@ codes_refusal kind rctd (Some options) code action =
     code_refusal (codes.is_refused options (codes.command_with_code kind code)) (codes.data_for kind (codes_asked rctd options code action) options)
 
 select_good : (d : DriveView) (h : HostDrive) (form : HeaderForm) (sp : Bool) (l : ℕ) (bytes : List ℕ)
-    → refusal_of (mode.selected default_values block_limit form sp l bytes) ≡ None
-    → (host_selects d h (mode.selected (mode_of d h) block_limit form sp l bytes)).1.status ≡ Good
+    → refusal_of (mode.selected default_values (most_block Hosts) form sp l bytes) ≡ None
+    → (host_selects d h (mode.selected (mode_of d h) (most_block Hosts) form sp l bytes)).1.status ≡ Good
 select_good d h form sp l bytes none =
-    selects_good d h (mode.selected (mode_of d h) block_limit form sp l bytes)
-    (selected_alike (mode_of d h) default_values block_limit form sp l bytes ∙ none)
+    selects_good d h (mode.selected (mode_of d h) (most_block Hosts) form sp l bytes)
+    (selected_alike (mode_of d h) default_values (most_block Hosts) form sp l bytes ∙ none)
 
 sense_good : (d : DriveView) (h : HostDrive) (form : HeaderForm) (dbd : Bool) (pc page subpage l : ℕ) → drive_fault (mode_sense form dbd pc page subpage) ≡ None
     → (answers l (answered (drive_fault (mode_sense form dbd pc page subpage)) (drive_data (mode_sense form dbd pc page subpage) (mode_state d h)))).status ≡ Good

@@ -6,6 +6,8 @@ use Rattle.scsi_cdb.specs.declared.host_request.HostRequest.{HostRequest}
 use Rattle.scsi_cdb.specs.declared.host_request.HostRequest.TheVariants as host
 use Rattle.scsi_cdb.specs.declared.kind.Kind.{Kind}
 use Rattle.scsi_cdb.specs.declared.kind.Kind.TheVariants.{Drive as drive_kind, Changer as changer_kind}
+use Rattle.scsi_cdb.specs.declared.profile.Profile.{Profile}
+use Rattle.scsi_cdb.specs.declared.profile.Profile.TheVariants.{Spec, Hosts}
 use Rattle.scsi_cdb.specs.declared.request.Request.{Request}
 use Rattle.scsi_cdb.specs.declared.request.Request.TheVariants as request
 use Rattle.scsi_sense.specs.Conditions.{sense_for}
@@ -14,7 +16,7 @@ use Rattle.scsi_sense.specs.declared.condition.Condition.TheVariants.{Initializi
 use Rattle.tape_medium.specs.declared.elements.MapFault.{MapFault}
 use Rattle.tape_medium.specs.declared.elements.MapFault.TheVariants.{BadAddress, SourceEmpty, DestinationFull}
 use Rattle.tape_medium.specs.Elements.{Elements, Element, Transport, DataTransfer, ImportExport, Storage, Nowhere, element_at, tag_of, tag_held, held_in, moved, refusal, move_refusal}
-use Rattle.tape_medium.specs.Limits.{block_limit}
+use Rattle.tape_medium.specs.Limits.{most_block}
 use Rattle.tape_medium.specs.Object.{Object, Block, Mark}
 use Rattle.tape_medium.specs.TapeView.{TapeView}
 use Rattle.tape_medium.specs.Tape.{ahead, object_at, erased, writes_block, writes_blocks, writes_marks}
@@ -43,14 +45,15 @@ use Rattle.supported_commands.specs.declared.options.ReportingOptions.{Reporting
 use Rattle.device_server.specs.declared.host_changer.HostChanger.{HostChanger}
 use Rattle.device_server.specs.declared.host_drive.HostDrive.{HostDrive}
 use Rattle.device_server.specs.declared.outcome.Outcome.{Outcome}
-use Rattle.device_server.specs.Outcomes.{done, refused, answers}
+use Rattle.device_server.specs.EarlyWarning.{early_warning, is_warned, warned}
+use Rattle.device_server.specs.Outcomes.{done, ended, refused, answers}
 use Rattle.device_server.specs.Changer.{moved_alone, carried, changer_step}
 use Rattle.device_server.specs.Drive.{DriveView, read_of, reads, run, bytes_of_object, ended_by, end_of_run, reads_fixed, wrote, unless_protected, unless_nothing, is_fixed_transfer, stopped, space_code, on_tape, in_volume, in_bay, loads, drive_step}
 use Rattle.device_server.specs.Failures.{is_failure, is_data_transfer, is_exchange_for_drives, is_for_drives, DrivesNeverFail, ChangersFailForDrives}
 use Rattle.device_server.specs.HostFields.{refusal_of}
 use Rattle.device_server.specs.Hosts.{mode_sense, log_sense, log_select, codes_asked, codes_answer}
 use Rattle.device_server.specs.HostChanger.{ChangerView, addresses_of, can_hold, changer_log_selected, host_exchanged_alone, host_exchanged, changer_command_step, host_changer_step}
-use Rattle.device_server.specs.HostDrive.{mode_of, mode_state, host_selects, host_loads, not_ready, host_in_volume, host_in_bay, drive_log, host_log_selects, host_command_step, host_drive_step}
+use Rattle.device_server.specs.HostDrive.{mode_of, mode_state, host_selects, host_loads, not_ready, host_on_tape, host_in_volume, host_in_bay, drive_log, host_log_selects, host_command_step, host_drive_step}
 use Rattle.device_server.specs.View.{DeviceView, Drive, Changer, commands_of, field_fault, drive_stepped, changer_stepped, stepped, performed}
 use Rattle.device_server.specs.Volumes.{is_exchange, is_move}
 use Rattle.device_server.proofs.FaultLemmas.{fault_fails, fails, either_answer, selected_free, mode_sense_free, log_sense_free, log_selected_free, field_free}
@@ -101,27 +104,40 @@ fixed_free m count t =
     let blocks = run m (ahead t) count in
     run_free (count - length blocks) (ended_by t count blocks) (flat_map bytes_of_object blocks)
 
-tape_free : (m : ℕ) (protected : Bool) (t : TapeView) (r : Request) (bytes : List ℕ) → IsFree (on_tape m protected t r bytes)
-tape_free m protected t (request.Read sili false asked) bytes = either (asked == 0) (t, done []) (reads sili m asked t) refl (read_free sili m asked (object_at t))
-tape_free m protected t (request.Read sili true count) bytes =
-    either (is_fixed_transfer m count) (unless_nothing count t (reads_fixed m count t)) (t, refused InvalidFieldInCdb)
+tape_free : (p : Profile) (m : ℕ) (protected : Bool) (t : TapeView) (r : Request) (bytes : List ℕ) → IsFree (on_tape p m protected t r bytes)
+tape_free p m protected t (request.Read sili false asked) bytes = either (asked == 0) (t, done []) (reads sili m asked t) refl (read_free sili m asked (object_at t))
+tape_free p m protected t (request.Read sili true count) bytes =
+    either (is_fixed_transfer p m count) (unless_nothing count t (reads_fixed m count t)) (t, refused InvalidFieldInCdb)
     (either (count == 0) (t, done []) (reads_fixed m count t) refl (fixed_free m count t)) refl
-tape_free m protected t (request.Write false asked) bytes = writing_free protected t asked (writes_block t bytes)
-tape_free m protected t (request.Write true count) bytes =
-    either (is_fixed_transfer m count && length bytes == count * m) (unless_nothing count t (unless_protected protected t (wrote t count (writes_blocks t bytes m)))) (t, refused InvalidFieldInCdb)
-    (writing_free protected t count (writes_blocks t bytes m)) refl
-tape_free m protected t (request.WriteFilemarks wsmk immed count) bytes = writing_free protected t count (writes_marks t count)
-tape_free m protected t (request.Space code count) bytes =
+tape_free p m protected t (request.Write false asked) bytes = writing_free protected t asked (writes_block p t bytes)
+tape_free p m protected t (request.Write true count) bytes =
+    either (is_fixed_transfer p m count && length bytes == count * m) (unless_nothing count t (unless_protected protected t (wrote t count (writes_blocks p t bytes m)))) (t, refused InvalidFieldInCdb)
+    (writing_free protected t count (writes_blocks p t bytes m)) refl
+tape_free p m protected t (request.WriteFilemarks wsmk immed count) bytes = writing_free protected t count (writes_marks p t count)
+tape_free p m protected t (request.Space code count) bytes =
     let moved = spaced (space_code code) t count in
     stopped_free (unsigned_abs count - moved.1.moved) moved.1.stop
-tape_free m protected t request.Erase bytes = either protected (t, refused WriteProtected) (erased t, done []) refl refl
-tape_free m protected t (request.Locate bt cp object partition) bytes = either_end (nat_le object (length t.objects)) (done []) (refused EndOfDataDetected) refl refl
-tape_free m protected t r bytes = refl
+tape_free p m protected t request.Erase bytes = either protected (t, refused WriteProtected) (erased t, done []) refl refl
+tape_free p m protected t (request.Locate bt cp object partition) bytes = either_end (nat_le object (length t.objects)) (done []) (refused EndOfDataDetected) refl refl
+tape_free p m protected t r bytes = refl
+
+warned_free : (told : ℕ) (x : TapeView × Outcome) → IsFree x → IsFree (warned told x)
+warned_free told x free = either (is_warned told x.1.status x.0) (x.0, ended early_warning []) x refl free
+
+host_tape_free : (m : ℕ) (protected : Bool) (t : TapeView) (r : Request) (bytes : List ℕ) → IsFree (host_on_tape m protected t r bytes)
+host_tape_free m protected t (request.Write fixed told) bytes =
+    let r = request.Write fixed told in
+    warned_free told (on_tape Hosts m protected t r bytes) (tape_free Hosts m protected t r bytes)
+host_tape_free m protected t (request.WriteFilemarks wsmk immed count) bytes =
+    let r = request.WriteFilemarks wsmk immed count in
+    warned_free count (on_tape Hosts m protected t r bytes) (tape_free Hosts m protected t r bytes)
+host_tape_free m protected t request.ReadPosition bytes = refl
+host_tape_free m protected t r bytes = tape_free Hosts m protected t r bytes
 
 bay_free : (d : DriveView) (o : Option Volume) (r : Request) (bytes : List ℕ) → IsFree (in_bay d o r bytes)
 bay_free d None r bytes = refl
 bay_free d (Some v) r bytes =
-    either d.loaded (in_volume d v (on_tape d.block_length v.protected v.tape r bytes)) (d, refused InitializingCommandRequired) (tape_free d.block_length v.protected v.tape r bytes) refl
+    either d.loaded (in_volume d v (on_tape Spec d.block_length v.protected v.tape r bytes)) (d, refused InitializingCommandRequired) (tape_free Spec d.block_length v.protected v.tape r bytes) refl
 
 loads_free : (d : DriveView) (o : Option Volume) (load : Bool) → IsFree (loads d o load)
 loads_free d None load = refl
@@ -176,8 +192,8 @@ not_ready_free false = refl
 host_bay_free : (d : DriveView) (h : HostDrive) (o : Option Volume) (r : Request) (bytes : List ℕ) → IsFree (host_in_bay d h o r bytes)
 host_bay_free d h None r bytes = refl
 host_bay_free d h (Some v) r bytes =
-    either d.loaded (host_in_volume d h v r (on_tape d.block_length v.protected v.tape r bytes)) (d, refused (not_ready h.held))
-    (tape_free d.block_length v.protected v.tape r bytes) (not_ready_free h.held)
+    either d.loaded (host_in_volume d h v r (host_on_tape d.block_length v.protected v.tape r bytes)) (d, refused (not_ready h.held))
+    (host_tape_free d.block_length v.protected v.tape r bytes) (not_ready_free h.held)
 
 host_loads_free : (d : DriveView) (h : HostDrive) (o : Option Volume) (hold load : Bool) → IsFree (host_loads d h o hold load)
 host_loads_free d h None hold load = refl
@@ -189,7 +205,7 @@ host_command_free d h (host.LogSelect pcr sp pc page subpage l) bytes =
     log_selects_free d h (log.selected drive_kind (log_select pcr sp page subpage l) (length bytes)) (log_selected_free drive_kind (log_select pcr sp page subpage l) (length bytes))
 host_command_free d h (host.LogSense ppc sp pc page subpage pointer l) bytes =
     answers_free l (drive_log_data (log_sense ppc sp page subpage pointer) (drive_log d h)) (drive_log_free (log_sense ppc sp page subpage pointer) (drive_log d h))
-host_command_free d h (host.ModeSelect10 sp l) bytes = selects_free d h (mode.selected (mode_of d h) block_limit Ten sp l bytes) (selected_free (mode_of d h) block_limit Ten sp l bytes)
+host_command_free d h (host.ModeSelect10 sp l) bytes = selects_free d h (mode.selected (mode_of d h) (most_block Hosts) Ten sp l bytes) (selected_free (mode_of d h) (most_block Hosts) Ten sp l bytes)
 host_command_free d h (host.ModeSense10 dbd pc page subpage l) bytes =
     let sense = mode_sense Ten dbd pc page subpage in
     answers_free l (answered (drive_fault sense) (mode_data_of sense (mode_state d h))) (answered_free (drive_fault sense) (mode_data_of sense (mode_state d h)) (mode_sense_free drive_kind sense))
@@ -202,7 +218,7 @@ host_command_free d h (host.InitializeElementStatusWithRange fast range start co
 
 host_drive_free : (d : DriveView) (h : HostDrive) (r : Request) (bytes : List ℕ) → IsFree (host_drive_step d h r bytes)
 host_drive_free d h request.ReadBlockLimits bytes = refl
-host_drive_free d h (request.ModeSelect sp l) bytes = selects_free d h (mode.selected (mode_of d h) block_limit Six sp l bytes) (selected_free (mode_of d h) block_limit Six sp l bytes)
+host_drive_free d h (request.ModeSelect sp l) bytes = selects_free d h (mode.selected (mode_of d h) (most_block Hosts) Six sp l bytes) (selected_free (mode_of d h) (most_block Hosts) Six sp l bytes)
 host_drive_free d h (request.ModeSense dbd pc page subpage l) bytes =
     let sense = mode_sense Six dbd pc page subpage in
     answers_free l (answered (drive_fault sense) (mode_data_of sense (mode_state d h))) (answered_free (drive_fault sense) (mode_data_of sense (mode_state d h)) (mode_sense_free drive_kind sense))

@@ -14,7 +14,7 @@ use Rattle.scsi_cdb.specs.declared.request.Request.TheVariants as request
 use Rattle.scsi_sense.specs.Conditions.{sense_for}
 use Rattle.scsi_sense.specs.declared.condition.Condition.{Condition}
 use Rattle.scsi_sense.specs.declared.condition.Condition.TheVariants.{InvalidFieldInCdb, InvalidFieldInParameterList, ParameterListLengthError, SavingParametersNotSupported}
-use Rattle.tape_medium.specs.Limits.{block_limit}
+use Rattle.tape_medium.specs.Limits.{most_block}
 use Rattle.mode_pages.specs.Asked.{asked, is_offered, asked_fault}
 use Rattle.mode_pages.specs.DrivePages.{page_of_code, page_length}
 use Rattle.mode_pages.specs.Lists.{header_length}
@@ -66,12 +66,12 @@ list_free told list =
     (either_fault (nat_lt told 4) (Some ParameterListLengthError) _ refl
     (either_fault (not (d == 0) && not (d == 8)) (Some InvalidFieldInParameterList) _ refl
     (either_fault (not (told == 4 + d)) (Some ParameterListLengthError) _ refl
-    (either_fault (d == 8 && nat_lt block_limit (block_length_in list)) (Some InvalidFieldInParameterList) None refl refl)))))
+    (either_fault (d == 8 && nat_lt (most_block Spec) (block_length_in list)) (Some InvalidFieldInParameterList) None refl refl)))))
 
 spec_free : (kind : Kind) (r : Request) (bytes : List ℕ) → fault_fails (spec_field_fault kind r bytes) ≡ false
 spec_free kind (request.Read sili fixed l) bytes = invalid_free (sili && fixed)
 spec_free kind (request.Write true l) bytes = refl
-spec_free kind (request.Write false l) bytes = invalid_free (nat_lt block_limit l || not (length bytes == l))
+spec_free kind (request.Write false l) bytes = invalid_free (nat_lt (most_block Spec) l || not (length bytes == l))
 spec_free kind (request.WriteFilemarks wsmk immed count) bytes = invalid_free wsmk
 spec_free kind (request.Space code count) bytes = invalid_free _
 spec_free kind (request.ModeSelect true l) bytes = refl
@@ -187,7 +187,7 @@ command_free : (k : Kind) (command : HostRequest) (bytes : List ℕ) → fault_f
 command_free k (host.SendDiagnostic code test l) bytes = invalid_free (not (code == 0) || not (l == 0))
 command_free k (host.LogSelect pcr sp pc page subpage l) bytes = log_selected_free k (log_select pcr sp page subpage l) (length bytes)
 command_free k (host.LogSense ppc sp pc page subpage pointer l) bytes = log_sense_free k (log_sense ppc sp page subpage pointer)
-command_free k (host.ModeSelect10 sp l) bytes = selected_free default_values block_limit Ten sp l bytes
+command_free k (host.ModeSelect10 sp l) bytes = selected_free default_values (most_block Hosts) Ten sp l bytes
 command_free k (host.ModeSense10 dbd pc page subpage l) bytes = mode_sense_free k (mode_sense Ten dbd pc page subpage)
 command_free k (host.ReportSupportedOperationCodes rctd options code action l) bytes = codes_free k rctd (options_at options) code action
 command_free k (host.ReportSupportedTaskManagementFunctions repd l) bytes = refl
@@ -196,7 +196,9 @@ command_free k (host.ExchangeMedium transport source first second inv1 inv2) byt
 command_free k (host.InitializeElementStatusWithRange fast range start count) bytes = refl
 
 host_free : (k : Kind) (r : Request) (bytes : List ℕ) → fault_fails (host_field_fault k r bytes) ≡ false
-host_free k (request.ModeSelect sp l) bytes = selected_free default_values block_limit Six sp l bytes
+host_free k (request.Write true l) bytes = refl
+host_free k (request.Write false l) bytes = invalid_free (nat_lt (most_block Hosts) l || not (length bytes == l))
+host_free k (request.ModeSelect sp l) bytes = selected_free default_values (most_block Hosts) Six sp l bytes
 host_free k (request.ModeSense dbd pc page subpage l) bytes = mode_sense_free k (mode_sense Six dbd pc page subpage)
 host_free k (request.LoadUnload hold eot load) bytes = invalid_free (eot || hold && load)
 host_free k (request.Locate bt cp object partition) bytes = invalid_free (cp && not (partition == 0))

@@ -11,3 +11,4 @@ pub mod ExchangeLemmas
 pub mod MoveLemmas
 pub mod FailureLemmas
 pub mod SettledLemmas
+pub mod WarningLemmas

@@ -6,6 +6,7 @@ use Rattle.std.specs.Option.{option_map}
 use Rattle.scsi_cdb.specs.declared.host_request.HostRequest.{HostRequest}
 use Rattle.scsi_cdb.specs.declared.host_request.HostRequest.TheVariants as host
 use Rattle.scsi_cdb.specs.declared.kind.Kind.TheVariants.{Drive as drive_kind}
+use Rattle.scsi_cdb.specs.declared.profile.Profile.TheVariants.{Spec, Hosts}
 use Rattle.scsi_cdb.specs.declared.request.Request.{Request}
 use Rattle.scsi_cdb.specs.declared.request.Request.TheVariants as request
 use Rattle.scsi_sense.specs.declared.condition.Condition.{Condition}
@@ -13,7 +14,7 @@ use Rattle.scsi_sense.specs.declared.condition.Condition.TheVariants.{Initializi
 use Rattle.tape_medium.specs.declared.volume.Volume.{Volume}
 use Rattle.tape_medium.specs.Elements.{Elements, Element, is_among, first_data_transfer, first_import_export, first_storage, element_at, tag_of, holding}
 use Rattle.tape_medium.specs.TapeView.{TapeView}
-use Rattle.tape_medium.specs.Limits.{block_limit}
+use Rattle.tape_medium.specs.Limits.{most_block}
 use Rattle.mode_pages.specs.Select as mode
 use Rattle.mode_pages.specs.declared.request.HeaderForm.TheVariants.{Six, Ten}
 use Rattle.mode_pages.specs.declared.values.ModeValues.{ModeValues}
@@ -25,7 +26,7 @@ use Rattle.device_server.specs.Outcomes.{refused}
 use Rattle.device_server.specs.Drive.{DriveView, on_tape, in_volume, in_bay, loads, drive_step, rewound}
 use Rattle.device_server.specs.Hosts.{log_select}
 use Rattle.device_server.specs.HostChanger.{ChangerView}
-use Rattle.device_server.specs.HostDrive.{mode_of, host_selects, host_loads, not_ready, host_in_volume, host_in_bay, host_log_selects, host_command_step, host_drive_step}
+use Rattle.device_server.specs.HostDrive.{mode_of, host_selects, host_loads, not_ready, host_on_tape, host_in_volume, host_in_bay, host_log_selects, host_command_step, host_drive_step}
 use Rattle.device_server.specs.View.{DeviceView, Drive, Changer, field_fault, drive_stepped, stepped}
 use Rattle.device_server.specs.Ends.{IsSameDevice}
 use Rattle.device_server.specs.Marks.{marks, KeepsMarks, GivesVolume, GetsVolume, SetsMark, CommandsKeepMarks, ResetsKeepMarks, JourneysKeepMarks, ExchangesKeepMarks, DrivesGive, DrivesGet, ChangersGive, ChangersGet, MarksOne, EachIsMarked}
@@ -42,7 +43,7 @@ ready_tag d v false step other h = refl
 
 in_bay_tag : (d : DriveView) (o : Option Volume) (r : Request) (bytes : List ℕ) → d.bay ≡ o → tag_of (in_bay d o r bytes).0.bay ≡ tag_of d.bay
 in_bay_tag d None r bytes h = refl
-in_bay_tag d (Some v) r bytes h = ready_tag d v d.loaded (on_tape d.block_length v.protected v.tape r bytes) (refused InitializingCommandRequired) h
+in_bay_tag d (Some v) r bytes h = ready_tag d v d.loaded (on_tape Spec d.block_length v.protected v.tape r bytes) (refused InitializingCommandRequired) h
 
 loads_tag : (d : DriveView) (o : Option Volume) (load : Bool) → d.bay ≡ o → tag_of (loads d o load).0.bay ≡ tag_of d.bay
 loads_tag d None load h = refl
@@ -63,7 +64,7 @@ either_tag d false x y p q = q
 host_bay_tag : (d : DriveView) (h : HostDrive) (o : Option Volume) (r : Request) (bytes : List ℕ) → d.bay ≡ o → tag_of (host_in_bay d h o r bytes).0.bay ≡ tag_of d.bay
 host_bay_tag d h None r bytes is = refl
 host_bay_tag d h (Some v) r bytes is =
-    either_tag d d.loaded (host_in_volume d h v r (on_tape d.block_length v.protected v.tape r bytes)) (d, refused (not_ready h.held)) (sym (ap tag_of is)) refl
+    either_tag d d.loaded (host_in_volume d h v r (host_on_tape d.block_length v.protected v.tape r bytes)) (d, refused (not_ready h.held)) (sym (ap tag_of is)) refl
 
 host_loads_tag : (d : DriveView) (h : HostDrive) (o : Option Volume) (hold load : Bool) → d.bay ≡ o → tag_of (host_loads d h o hold load).0.bay ≡ tag_of d.bay
 host_loads_tag d h None hold load is = refl
@@ -79,12 +80,12 @@ log_selects_tag d h (Err condition) = refl
 
 host_command_tag : (d : DriveView) (h : HostDrive) (command : HostRequest) (bytes : List ℕ) → tag_of (host_command_step d h command bytes).0.bay ≡ tag_of d.bay
 host_command_tag d h (host.LogSelect pcr sp pc page subpage l) bytes = log_selects_tag d h (log.selected drive_kind (log_select pcr sp page subpage l) (length bytes))
-host_command_tag d h (host.ModeSelect10 sp l) bytes = selects_tag d h (mode.selected (mode_of d h) block_limit Ten sp l bytes)
+host_command_tag d h (host.ModeSelect10 sp l) bytes = selects_tag d h (mode.selected (mode_of d h) (most_block Hosts) Ten sp l bytes)
 host_command_tag d h command bytes = refl
 
 host_drive_tag : (d : DriveView) (h : HostDrive) (r : Request) (bytes : List ℕ) → tag_of (host_drive_step d h r bytes).0.bay ≡ tag_of d.bay
 host_drive_tag d h request.ReadBlockLimits bytes = refl
-host_drive_tag d h (request.ModeSelect sp l) bytes = selects_tag d h (mode.selected (mode_of d h) block_limit Six sp l bytes)
+host_drive_tag d h (request.ModeSelect sp l) bytes = selects_tag d h (mode.selected (mode_of d h) (most_block Hosts) Six sp l bytes)
 host_drive_tag d h (request.ModeSense dbd pc page subpage l) bytes = refl
 host_drive_tag d h (request.LoadUnload hold eot load) bytes = host_loads_tag d h d.bay hold load refl
 host_drive_tag d h (request.Host command) bytes = host_command_tag d h command bytes

@@ -19,10 +19,10 @@ use Rattle.device_server.specs.declared.host_changer.HostChanger.{HostChanger}
 use Rattle.device_server.specs.declared.host_drive.HostDrive.{HostDrive}
 use Rattle.device_server.specs.declared.outcome.Outcome.{Outcome}
 use Rattle.device_server.specs.Outcomes.{refused}
-use Rattle.device_server.specs.Drive.{DriveView, on_tape, in_volume, in_bay}
+use Rattle.device_server.specs.Drive.{DriveView, in_volume, in_bay}
 use Rattle.device_server.specs.Changer.{moved_alone, carried, changer_step}
 use Rattle.device_server.specs.HostChanger.{ChangerView, spec_changer, sources_exchanged, host_moved_alone, host_carried, host_exchanged_alone, host_exchanged, changer_command_step, host_changer_step}
-use Rattle.device_server.specs.HostDrive.{not_ready, host_in_volume, host_in_bay}
+use Rattle.device_server.specs.HostDrive.{not_ready, host_on_tape, host_in_volume, host_in_bay}
 use Rattle.device_server.specs.View.{DeviceView, Drive, Changer, field_fault, drive_stepped, changer_stepped, stepped}
 use Rattle.device_server.specs.Volumes.{Carries, Exchanges, is_move, MovesNothing, ChangersStay, MovesCarryOne, ExchangesCarryTwo}
 use Rattle.device_server.proofs.FieldLemmas.{move_performed, inverted_performed}
@@ -202,7 +202,7 @@ host_bay_fails : (d : DriveView) (h : HostDrive) (o : Option Volume) (transport 
 host_bay_fails d h None transport source destination bytes good = cc
 host_bay_fails d h (Some v) transport source destination bytes good =
     let r : Request = request.MoveMedium transport source destination false in
-    host_ready_fails d.loaded (host_in_volume d h v r (on_tape d.block_length v.protected v.tape r bytes)) d h.held check_fails good
+    host_ready_fails d.loaded (host_in_volume d h v r (host_on_tape d.block_length v.protected v.tape r bytes)) d h.held check_fails good
 
 drive_fails : (d : DriveView) (o : Option HostDrive) (transport source destination : ℕ) (bytes : List ℕ)
     → (drive_stepped o d (request.MoveMedium transport source destination false) bytes).1.status ≢ Good

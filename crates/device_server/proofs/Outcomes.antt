@@ -18,7 +18,7 @@ use Rattle.scsi_sense.specs.declared.status.Status.TheVariants.{Good}
 use Rattle.tape_medium.specs.declared.elements.MapFault.{MapFault}
 use Rattle.tape_medium.specs.Elements.{Elements, moves, move_refusal}
 use Rattle.tape_medium.specs.ElementStatus.{element_status}
-use Rattle.tape_medium.specs.Limits.{block_limit}
+use Rattle.tape_medium.specs.Limits.{most_block}
 use Rattle.tape_medium.specs.Object.{Object, Block, Mark}
 use Rattle.tape_medium.specs.TapeView.{TapeView}
 use Rattle.tape_medium.specs.Tape.{ahead, object_at, erased, writes_block, writes_blocks, writes_marks}
@@ -47,13 +47,14 @@ use Rattle.unit_attention.specs.declared.kind.Kind.TheVariants.{MediumChanged, M
 use Rattle.device_server.specs.declared.host_changer.HostChanger.{HostChanger}
 use Rattle.device_server.specs.declared.host_drive.HostDrive.{HostDrive}
 use Rattle.device_server.specs.declared.outcome.Outcome.{Outcome}
+use Rattle.device_server.specs.EarlyWarning.{early_warning, is_warned, warned}
 use Rattle.device_server.specs.Outcomes.{done, tells, ended, refused, answers}
 use Rattle.device_server.specs.Drive.{DriveView, read_of, reads, run, bytes_of_object, ended_by, end_of_run, reads_fixed, wrote, unless_protected, unless_nothing, is_fixed_transfer, stopped, space_code, position_data, on_tape, in_volume, in_bay, loads, drive_step}
 use Rattle.device_server.specs.Mode.{block_length_after}
 use Rattle.device_server.specs.Changer.{changer_mode_data, moved_alone, carried, changer_step}
 use Rattle.device_server.specs.Hosts.{mode_sense, log_sense, log_select, codes_answer}
 use Rattle.device_server.specs.HostChanger.{ChangerView, host_moved_alone, host_carried, status_asked, addresses_of, can_hold, changer_log_selected, host_exchanged_alone, host_exchanged, changer_command_step, host_changer_step}
-use Rattle.device_server.specs.HostDrive.{mode_of, mode_state, is_other_mode, host_selects, host_loads, not_ready, host_in_volume, host_in_bay, drive_log, host_log_selects, host_command_step, host_drive_step}
+use Rattle.device_server.specs.HostDrive.{mode_of, mode_state, is_other_mode, host_selects, host_loads, not_ready, host_position_data, host_on_tape, host_in_volume, host_in_bay, drive_log, host_log_selects, host_command_step, host_drive_step}
 use Rattle.device_server.specs.View.{DeviceView, Drive, Changer, profile_by, profile_of, field_fault, drive_stepped, changer_stepped, stepped, performed}
 use Rattle.device_server.specs.Ends.{IsEnded, told_by, IsOwn}
 
@@ -137,41 +138,54 @@ fixed_is m count t =
 transfer_is : (fits : Bool) (t : TapeView) (x : TapeView × Outcome) → Steps x → Steps (cond fits x (t, refused InvalidFieldInCdb))
 transfer_is fits t x h = either_step fits x (t, refused InvalidFieldInCdb) h (refused_is InvalidFieldInCdb)
 
-tape_is : (m : ℕ) (protected : Bool) (t : TapeView) (r : Request) (bytes : List ℕ) → Steps (on_tape m protected t r bytes)
-tape_is m protected t request.TestUnitReady bytes = done_is []
-tape_is m protected t request.Rewind bytes = done_is []
-tape_is m protected t (request.RequestSense desc l) bytes = refused_is InvalidCommandOperationCode
-tape_is m protected t request.ReadBlockLimits bytes = refused_is InvalidCommandOperationCode
-tape_is m protected t request.InitializeElementStatus bytes = refused_is InvalidCommandOperationCode
-tape_is m protected t (request.Read sili false asked) bytes = some_is asked t (reads sili m asked t) (read_is sili m asked (object_at t))
-tape_is m protected t (request.Read sili true count) bytes =
-    transfer_is (is_fixed_transfer m count) t (unless_nothing count t (reads_fixed m count t)) (some_is count t (reads_fixed m count t) (fixed_is m count t))
-tape_is m protected t (request.Write false asked) bytes = writing_is protected t asked (writes_block t bytes)
-tape_is m protected t (request.Write true count) bytes =
-    transfer_is (is_fixed_transfer m count && length bytes == count * m) t (unless_nothing count t (unless_protected protected t (wrote t count (writes_blocks t bytes m)))) (writing_is protected t count (writes_blocks t bytes m))
-tape_is m protected t (request.WriteFilemarks wsmk immed count) bytes = writing_is protected t count (writes_marks t count)
-tape_is m protected t (request.Space code count) bytes =
+tape_is : (p : Profile) (m : ℕ) (protected : Bool) (t : TapeView) (r : Request) (bytes : List ℕ) → Steps (on_tape p m protected t r bytes)
+tape_is p m protected t request.TestUnitReady bytes = done_is []
+tape_is p m protected t request.Rewind bytes = done_is []
+tape_is p m protected t (request.RequestSense desc l) bytes = refused_is InvalidCommandOperationCode
+tape_is p m protected t request.ReadBlockLimits bytes = refused_is InvalidCommandOperationCode
+tape_is p m protected t request.InitializeElementStatus bytes = refused_is InvalidCommandOperationCode
+tape_is p m protected t (request.Read sili false asked) bytes = some_is asked t (reads sili m asked t) (read_is sili m asked (object_at t))
+tape_is p m protected t (request.Read sili true count) bytes =
+    transfer_is (is_fixed_transfer p m count) t (unless_nothing count t (reads_fixed m count t)) (some_is count t (reads_fixed m count t) (fixed_is m count t))
+tape_is p m protected t (request.Write false asked) bytes = writing_is protected t asked (writes_block p t bytes)
+tape_is p m protected t (request.Write true count) bytes =
+    transfer_is (is_fixed_transfer p m count && length bytes == count * m) t (unless_nothing count t (unless_protected protected t (wrote t count (writes_blocks p t bytes m)))) (writing_is protected t count (writes_blocks p t bytes m))
+tape_is p m protected t (request.WriteFilemarks wsmk immed count) bytes = writing_is protected t count (writes_marks p t count)
+tape_is p m protected t (request.Space code count) bytes =
     let moved = spaced (space_code code) t count in
     stopped_is (unsigned_abs count - moved.1.moved) moved.1.stop
-tape_is m protected t (request.Inquiry evpd page l) bytes = refused_is InvalidCommandOperationCode
-tape_is m protected t (request.ModeSelect sp l) bytes = refused_is InvalidCommandOperationCode
-tape_is m protected t request.Erase bytes = guarded_is protected t (erased t, done []) (done_is [])
-tape_is m protected t (request.ModeSense dbd pc page subpage l) bytes = refused_is InvalidCommandOperationCode
-tape_is m protected t (request.LoadUnload hold eot load) bytes = refused_is InvalidCommandOperationCode
-tape_is m protected t (request.PreventAllowMediumRemoval prevent) bytes = refused_is InvalidCommandOperationCode
-tape_is m protected t (request.Locate bt cp object partition) bytes = either (nat_le object (length t.objects)) (done []) (refused EndOfDataDetected) (done_is []) (refused_is EndOfDataDetected)
-tape_is m protected t request.ReadPosition bytes = done_is (position_data t.position)
-tape_is m protected t (request.PersistentReserveIn action l) bytes = refused_is InvalidCommandOperationCode
-tape_is m protected t (request.PersistentReserveOut action scope_type l) bytes = refused_is InvalidCommandOperationCode
-tape_is m protected t (request.ReportLuns select l) bytes = refused_is InvalidCommandOperationCode
-tape_is m protected t (request.MoveMedium transport source destination invert) bytes = refused_is InvalidCommandOperationCode
-tape_is m protected t (request.ReadElementStatus voltag type_code start count curdata dvcid l) bytes = refused_is InvalidCommandOperationCode
-tape_is m protected t (request.Host command) bytes = refused_is InvalidCommandOperationCode
+tape_is p m protected t (request.Inquiry evpd page l) bytes = refused_is InvalidCommandOperationCode
+tape_is p m protected t (request.ModeSelect sp l) bytes = refused_is InvalidCommandOperationCode
+tape_is p m protected t request.Erase bytes = guarded_is protected t (erased t, done []) (done_is [])
+tape_is p m protected t (request.ModeSense dbd pc page subpage l) bytes = refused_is InvalidCommandOperationCode
+tape_is p m protected t (request.LoadUnload hold eot load) bytes = refused_is InvalidCommandOperationCode
+tape_is p m protected t (request.PreventAllowMediumRemoval prevent) bytes = refused_is InvalidCommandOperationCode
+tape_is p m protected t (request.Locate bt cp object partition) bytes = either (nat_le object (length t.objects)) (done []) (refused EndOfDataDetected) (done_is []) (refused_is EndOfDataDetected)
+tape_is p m protected t request.ReadPosition bytes = done_is (position_data t.position)
+tape_is p m protected t (request.PersistentReserveIn action l) bytes = refused_is InvalidCommandOperationCode
+tape_is p m protected t (request.PersistentReserveOut action scope_type l) bytes = refused_is InvalidCommandOperationCode
+tape_is p m protected t (request.ReportLuns select l) bytes = refused_is InvalidCommandOperationCode
+tape_is p m protected t (request.MoveMedium transport source destination invert) bytes = refused_is InvalidCommandOperationCode
+tape_is p m protected t (request.ReadElementStatus voltag type_code start count curdata dvcid l) bytes = refused_is InvalidCommandOperationCode
+tape_is p m protected t (request.Host command) bytes = refused_is InvalidCommandOperationCode
+
+warned_is : (told : ℕ) (x : TapeView × Outcome) → Steps x → Steps (warned told x)
+warned_is told x h = either_step (is_warned told x.1.status x.0) (x.0, ended early_warning []) x (ended_is early_warning []) h
+
+host_tape_is : (m : ℕ) (protected : Bool) (t : TapeView) (r : Request) (bytes : List ℕ) → Steps (host_on_tape m protected t r bytes)
+host_tape_is m protected t (request.Write fixed told) bytes =
+    let r = request.Write fixed told in
+    warned_is told (on_tape Hosts m protected t r bytes) (tape_is Hosts m protected t r bytes)
+host_tape_is m protected t (request.WriteFilemarks wsmk immed count) bytes =
+    let r = request.WriteFilemarks wsmk immed count in
+    warned_is count (on_tape Hosts m protected t r bytes) (tape_is Hosts m protected t r bytes)
+host_tape_is m protected t request.ReadPosition bytes = done_is (host_position_data t)
+host_tape_is m protected t r bytes = tape_is Hosts m protected t r bytes
 
 bay_is : (d : DriveView) (o : Option Volume) (r : Request) (bytes : List ℕ) → Steps (in_bay d o r bytes)
 bay_is d None r bytes = refused_is MediumNotPresent
 bay_is d (Some v) r bytes =
-    either_step d.loaded (in_volume d v (on_tape d.block_length v.protected v.tape r bytes)) (d, refused InitializingCommandRequired) (tape_is d.block_length v.protected v.tape r bytes) (refused_is InitializingCommandRequired)
+    either_step d.loaded (in_volume d v (on_tape Spec d.block_length v.protected v.tape r bytes)) (d, refused InitializingCommandRequired) (tape_is Spec d.block_length v.protected v.tape r bytes) (refused_is InitializingCommandRequired)
 
 loads_is : (d : DriveView) (o : Option Volume) (load : Bool) → Steps (loads d o load)
 loads_is d None load = refused_is MediumNotPresent
@@ -231,8 +245,8 @@ answers_is l (Err condition) = refused_is condition
 host_bay_is : (d : DriveView) (h : HostDrive) (o : Option Volume) (r : Request) (bytes : List ℕ) → Steps (host_in_bay d h o r bytes)
 host_bay_is d h None r bytes = refused_is MediumNotPresent
 host_bay_is d h (Some v) r bytes =
-    either_step d.loaded (host_in_volume d h v r (on_tape d.block_length v.protected v.tape r bytes)) (d, refused (not_ready h.held))
-    (tape_is d.block_length v.protected v.tape r bytes) (refused_is (not_ready h.held))
+    either_step d.loaded (host_in_volume d h v r (host_on_tape d.block_length v.protected v.tape r bytes)) (d, refused (not_ready h.held))
+    (host_tape_is d.block_length v.protected v.tape r bytes) (refused_is (not_ready h.held))
 
 host_loads_own : (r : Request) → told_by Hosts (class_of r) ≡ Some MediumChanged → (d : DriveView) (h : HostDrive) (o : Option Volume) (hold load : Bool)
     → IsOwn Hosts r (host_loads d h o hold load).1
@@ -256,7 +270,7 @@ host_command_own d h (host.LogSelect pcr sp pc page subpage l) bytes =
 host_command_own d h (host.LogSense ppc sp pc page subpage pointer l) bytes =
     own Hosts _ _ (answers_is l (drive_log_data (log_sense ppc sp page subpage pointer) (drive_log d h)))
 host_command_own d h (host.ModeSelect10 sp l) bytes =
-    selects_own (request.Host (host.ModeSelect10 sp l)) refl d h (mode.selected (mode_of d h) block_limit Ten sp l bytes)
+    selects_own (request.Host (host.ModeSelect10 sp l)) refl d h (mode.selected (mode_of d h) (most_block Hosts) Ten sp l bytes)
 host_command_own d h (host.ModeSense10 dbd pc page subpage l) bytes =
     own Hosts _ _ (answers_is l (drive_answer (mode_sense Ten dbd pc page subpage) (mode_state d h)))
 host_command_own d h (host.ReportSupportedOperationCodes rctd options code action l) bytes =
@@ -268,7 +282,7 @@ host_command_own d h (host.InitializeElementStatusWithRange fast range start cou
 
 host_drive_own : (d : DriveView) (h : HostDrive) (r : Request) (bytes : List ℕ) → IsOwn Hosts r (host_drive_step d h r bytes).1
 host_drive_own d h request.ReadBlockLimits bytes = own Hosts request.ReadBlockLimits _ (done_is _)
-host_drive_own d h (request.ModeSelect sp l) bytes = selects_own (request.ModeSelect sp l) refl d h (mode.selected (mode_of d h) block_limit Six sp l bytes)
+host_drive_own d h (request.ModeSelect sp l) bytes = selects_own (request.ModeSelect sp l) refl d h (mode.selected (mode_of d h) (most_block Hosts) Six sp l bytes)
 host_drive_own d h (request.ModeSense dbd pc page subpage l) bytes =
     own Hosts (request.ModeSense dbd pc page subpage l) _ (answers_is l (drive_answer (mode_sense Six dbd pc page subpage) (mode_state d h)))
 host_drive_own d h (request.LoadUnload hold eot load) bytes = host_loads_own (request.LoadUnload hold eot load) refl d h d.bay hold load

@@ -7,12 +7,13 @@ use Rattle.scsi_cdb.specs.declared.host_request.HostRequest.TheVariants as host
 use Rattle.scsi_cdb.specs.declared.kind.Kind.{Kind}
 use Rattle.scsi_cdb.specs.declared.kind.Kind.TheVariants as kind
 use Rattle.scsi_cdb.specs.declared.profile.Profile.{Profile}
+use Rattle.scsi_cdb.specs.declared.profile.Profile.TheVariants.{Spec, Hosts}
 use Rattle.scsi_cdb.specs.declared.request.Request.{Request}
 use Rattle.scsi_cdb.specs.declared.request.Request.TheVariants as request
 use Rattle.scsi_cdb.specs.Kinds.{commands}
 use Rattle.scsi_sense.specs.declared.condition.Condition.{Condition}
 use Rattle.scsi_sense.specs.declared.condition.Condition.TheVariants.{InitializingCommandRequired}
-use Rattle.tape_medium.specs.Limits.{block_limit}
+use Rattle.tape_medium.specs.Limits.{most_block}
 use Rattle.tape_medium.specs.declared.volume.Volume.{Volume}
 use Rattle.tape_medium.specs.declared.elements.MapFault.{MapFault}
 use Rattle.tape_medium.specs.Elements.{Elements, Element, Transport, DataTransfer, ImportExport, Storage, Nowhere, element_at, held_in, holding, moved, move_refusal, moves}
@@ -31,7 +32,7 @@ use Rattle.device_server.specs.Changer.{moved_alone, carried, changer_step}
 use Rattle.device_server.specs.Drive.{DriveView, on_tape, in_volume, in_bay, loads, drive_step}
 use Rattle.device_server.specs.Hosts.{log_select}
 use Rattle.device_server.specs.HostChanger.{ChangerView, sources_moved, sources_exchanged, host_moved_alone, host_carried, host_exchanged_alone, host_exchanged, changer_command_step, host_changer_step}
-use Rattle.device_server.specs.HostDrive.{mode_of, host_selects, host_loads, not_ready, host_in_volume, host_in_bay, host_log_selects, host_command_step, host_drive_step}
+use Rattle.device_server.specs.HostDrive.{mode_of, host_selects, host_loads, not_ready, host_on_tape, host_in_volume, host_in_bay, host_log_selects, host_command_step, host_drive_step}
 use Rattle.device_server.specs.View.{DeviceView, Drive, Changer, kind_of, identity_of, profile_by, profile_of, commands_of, drives_of, journeyed, exchange_journeyed, field_fault, drive_stepped, changer_stepped, stepped, performed, reset_of}
 use Rattle.device_server.specs.Ends.{IsSameDevice}
 use Rattle.device_server.proofs.ExchangeLemmas.{exchanged_drives}
@@ -63,7 +64,7 @@ either_hosts d false x y p q = q
 bay_hosts : (d : DriveView) (o : Option Volume) (r : Request) (bytes : List ℕ) → (in_bay d o r bytes).0.hosts ≡ d.hosts
 bay_hosts d None r bytes = refl
 bay_hosts d (Some v) r bytes =
-    either_hosts d d.loaded (in_volume d v (on_tape d.block_length v.protected v.tape r bytes)) (d, refused InitializingCommandRequired) refl refl
+    either_hosts d d.loaded (in_volume d v (on_tape Spec d.block_length v.protected v.tape r bytes)) (d, refused InitializingCommandRequired) refl refl
 
 loads_hosts : (d : DriveView) (o : Option Volume) (load : Bool) → (loads d o load).0.hosts ≡ d.hosts
 loads_hosts d None load = refl
@@ -87,7 +88,7 @@ either_stays d false x y p q = q
 host_bay_stays : (d : DriveView) (h : HostDrive) (o : Option Volume) (r : Request) (bytes : List ℕ) → d.hosts ≡ Some h → Stays d (host_in_bay d h o r bytes)
 host_bay_stays d h None r bytes is = refl
 host_bay_stays d h (Some v) r bytes is =
-    either_stays d d.loaded (host_in_volume d h v r (on_tape d.block_length v.protected v.tape r bytes)) (d, refused (not_ready h.held))
+    either_stays d d.loaded (host_in_volume d h v r (host_on_tape d.block_length v.protected v.tape r bytes)) (d, refused (not_ready h.held))
     (sym (ap drive_identity is)) refl
 
 host_loads_stays : (d : DriveView) (h : HostDrive) (o : Option Volume) (hold load : Bool) → d.hosts ≡ Some h → Stays d (host_loads d h o hold load)
@@ -107,7 +108,7 @@ host_command_stays d h (host.SendDiagnostic code test l) bytes is = refl
 host_command_stays d h (host.LogSelect pcr sp pc page subpage l) bytes is =
     log_selects_stays d h (log.selected kind.Drive (log_select pcr sp page subpage l) (length bytes)) is
 host_command_stays d h (host.LogSense ppc sp pc page subpage pointer l) bytes is = refl
-host_command_stays d h (host.ModeSelect10 sp l) bytes is = selects_stays d h (mode.selected (mode_of d h) block_limit Ten sp l bytes) is
+host_command_stays d h (host.ModeSelect10 sp l) bytes is = selects_stays d h (mode.selected (mode_of d h) (most_block Hosts) Ten sp l bytes) is
 host_command_stays d h (host.ModeSense10 dbd pc page subpage l) bytes is = refl
 host_command_stays d h (host.ReportSupportedOperationCodes rctd options code action l) bytes is = refl
 host_command_stays d h (host.ReportSupportedTaskManagementFunctions repd l) bytes is = refl
@@ -117,7 +118,7 @@ host_command_stays d h (host.InitializeElementStatusWithRange fast range start c
 
 host_drive_stays : (d : DriveView) (h : HostDrive) (r : Request) (bytes : List ℕ) → d.hosts ≡ Some h → Stays d (host_drive_step d h r bytes)
 host_drive_stays d h request.ReadBlockLimits bytes is = refl
-host_drive_stays d h (request.ModeSelect sp l) bytes is = selects_stays d h (mode.selected (mode_of d h) block_limit Six sp l bytes) is
+host_drive_stays d h (request.ModeSelect sp l) bytes is = selects_stays d h (mode.selected (mode_of d h) (most_block Hosts) Six sp l bytes) is
 host_drive_stays d h (request.ModeSense dbd pc page subpage l) bytes is = refl
 host_drive_stays d h (request.LoadUnload hold eot load) bytes is = host_loads_stays d h d.bay hold load is
 host_drive_stays d h (request.Host command) bytes is = host_command_stays d h command bytes is

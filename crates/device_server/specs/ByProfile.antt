@@ -1,6 +1,6 @@
 -- What devices of the default profile do is what they did before there was another one, and what the fields of commands of the hosts' profile
 -- decide.
-use Rattle.std.specs.Prelude.{◌≡◌, ◌↔◌, ℕ, Bool, List, Some, None, Ok}
+use Rattle.std.specs.Prelude.{◌≡◌, ◌↔◌, ℕ, Bool, false, List, Some, None, Ok}
 use Rattle.scsi_cdb.specs.declared.host_request.HostRequest.{HostRequest}
 use Rattle.scsi_cdb.specs.declared.kind.Kind.{Kind}
 use Rattle.scsi_cdb.specs.declared.kind.Kind.TheVariants as kind
@@ -9,6 +9,7 @@ use Rattle.scsi_cdb.specs.declared.request.Request.{Request}
 use Rattle.scsi_cdb.specs.declared.request.Request.TheVariants.{ModeSelect, ModeSense, Host}
 use Rattle.scsi_cdb.specs.Encoding.{IsOf}
 use Rattle.scsi_cdb.specs.Kinds.{commands}
+use Rattle.scsi_sense.specs.CarriedOut.{is_early_warning}
 use Rattle.scsi_sense.specs.declared.status.Status.TheVariants.{Good}
 use Rattle.tape_medium.specs.Elements.{Elements}
 use Rattle.mode_pages.specs.declared.values.ModeValues.{ModeValues}
@@ -32,6 +33,10 @@ DrivesOfSpec = (d : DriveView) (request : Request) (bytes : List ℕ) → d.host
 abbrev pub ChangersOfSpec : Type 0
 ChangersOfSpec = (e : Elements) (request : Request) (bytes : List ℕ)
     → stepped (Changer (spec_changer e)) request bytes ≡ (let step = changer_step e request in (Changer (spec_changer step.0), step.1))
+
+-- no command of a drive there ends at early warning
+abbrev pub DrivesOfSpecNeverWarn : Type 0
+DrivesOfSpecNeverWarn = (d : DriveView) (request : Request) (bytes : List ℕ) → is_early_warning (drive_step d request bytes).1.sense ≡ false
 
 abbrev pub IdentitiesAreOfHosts : Type 0
 IdentitiesAreOfHosts = (device : DeviceView) → (profile_of device ≡ Spec) ↔ (identity_of device ≡ None)

@@ -2,10 +2,12 @@
 use Rattle.std.specs.Prelude.{ℕ, ◌+◌, ◌-◌, ◌*◌, ◌/◌, ◌%◌, ◌^◌, ◌==◌, nat_le, zero, suc, Bool, true, false, not, ◌&&◌, ◌||◌, List, [], ◌∷◌, ◌++◌, length, take, replicate, unsigned_abs, Option, Some, None, Result, Ok, Err, if◌then◌else◌}
 use Rattle.std.specs.List.{flat_map}
 use Rattle.std.specs.Option.{option_map}
+use Rattle.scsi_cdb.specs.declared.profile.Profile.{Profile}
+use Rattle.scsi_cdb.specs.declared.profile.Profile.TheVariants.{Spec, Hosts}
 use Rattle.scsi_cdb.specs.declared.request.Request.{Request}
 use Rattle.scsi_cdb.specs.declared.request.Request.TheVariants.{TestUnitReady, Rewind, ReadBlockLimits, Read, Write, WriteFilemarks, Space, ModeSelect, Erase, ModeSense, LoadUnload, Locate, ReadPosition}
 use Rattle.scsi_sense.specs.declared.condition.Condition.TheVariants.{MediumNotPresent, InitializingCommandRequired, InvalidFieldInCdb, InvalidCommandOperationCode, WriteProtected, EndOfDataDetected}
-use Rattle.tape_medium.specs.Limits.{block_limit}
+use Rattle.tape_medium.specs.Limits.{most_block}
 use Rattle.tape_medium.specs.Object.{Object, Block, Mark}
 use Rattle.tape_medium.specs.TapeView.{TapeView}
 use Rattle.tape_medium.specs.Tape.{ahead, object_at, item_of, passed, moved_to, located, erased, writes_block, writes_blocks, writes_marks}
@@ -101,8 +103,8 @@ abbrev pub unless_nothing : (told : ℕ) → TapeView → TapeView × Outcome �
 unless_nothing told t step = if told == 0 then (t, done []) else step
 
 -- a transfer in blocks of the mode's length: it has one, and isn't too long
-abbrev pub is_fixed_transfer : (block_length count : ℕ) → Bool
-is_fixed_transfer block_length count = not (block_length == 0) && nat_le (count * block_length) block_limit
+abbrev pub is_fixed_transfer : Profile → (block_length count : ℕ) → Bool
+is_fixed_transfer profile block_length count = not (block_length == 0) && nat_le (count * block_length) (most_block profile)
 
 -- POSITIONING
 abbrev pub stopped : (left : ℕ) → Stop → Outcome
@@ -128,27 +130,28 @@ four n = n / 2 ^ 24 % 256 ∷ n / 2 ^ 16 % 256 ∷ n / 2 ^ 8 % 256 ∷ n % 256 �
 abbrev pub position_data : ℕ → List ℕ
 position_data position = (if position == 0 then 0x80 else 0x00) ∷ replicate 3 0 ++ four position ++ four position ++ replicate 8 0
 
--- A COMMAND ON THE TAPE of a volume that is loaded, with the data sent with it. A command that isn't of a tape isn't one of a drive.
-abbrev pub on_tape : (block_length : ℕ) → (protected : Bool) → TapeView → Request → List ℕ → TapeView × Outcome
-on_tape block_length protected t TestUnitReady bytes = (t, done [])
-on_tape block_length protected t Rewind bytes = (moved_to t 0, done [])
-on_tape block_length protected t (Read sili false asked) bytes = unless_nothing asked t (reads sili block_length asked t)
-on_tape block_length protected t (Read sili true count) bytes =
-    if is_fixed_transfer block_length count then unless_nothing count t (reads_fixed block_length count t)
+-- A COMMAND ON THE TAPE of a volume that is loaded, with the data sent with it, in a drive of a profile. A command that isn't of a tape isn't
+-- one of a drive.
+abbrev pub on_tape : Profile → (block_length : ℕ) → (protected : Bool) → TapeView → Request → List ℕ → TapeView × Outcome
+on_tape profile block_length protected t TestUnitReady bytes = (t, done [])
+on_tape profile block_length protected t Rewind bytes = (moved_to t 0, done [])
+on_tape profile block_length protected t (Read sili false asked) bytes = unless_nothing asked t (reads sili block_length asked t)
+on_tape profile block_length protected t (Read sili true count) bytes =
+    if is_fixed_transfer profile block_length count then unless_nothing count t (reads_fixed block_length count t)
     else (t, refused InvalidFieldInCdb)
-on_tape block_length protected t (Write false asked) bytes =
-    unless_nothing asked t (unless_protected protected t (wrote t asked (writes_block t bytes)))
-on_tape block_length protected t (Write true count) bytes =
-    if is_fixed_transfer block_length count && length bytes == count * block_length
-    then unless_nothing count t (unless_protected protected t (wrote t count (writes_blocks t bytes block_length)))
+on_tape profile block_length protected t (Write false asked) bytes =
+    unless_nothing asked t (unless_protected protected t (wrote t asked (writes_block profile t bytes)))
+on_tape profile block_length protected t (Write true count) bytes =
+    if is_fixed_transfer profile block_length count && length bytes == count * block_length
+    then unless_nothing count t (unless_protected protected t (wrote t count (writes_blocks profile t bytes block_length)))
     else (t, refused InvalidFieldInCdb)
-on_tape block_length protected t (WriteFilemarks wsmk immed count) bytes =
-    unless_nothing count t (unless_protected protected t (wrote t count (writes_marks t count)))
-on_tape block_length protected t (Space code count) bytes = space_ended (unsigned_abs count) (spaced (space_code code) t count)
-on_tape block_length protected t Erase bytes = unless_protected protected t (erased t, done [])
-on_tape block_length protected t (Locate bt cp object partition) bytes = locates object t
-on_tape block_length protected t ReadPosition bytes = (t, done (position_data t.position))
-on_tape block_length protected t request bytes = (t, refused InvalidCommandOperationCode)
+on_tape profile block_length protected t (WriteFilemarks wsmk immed count) bytes =
+    unless_nothing count t (unless_protected protected t (wrote t count (writes_marks profile t count)))
+on_tape profile block_length protected t (Space code count) bytes = space_ended (unsigned_abs count) (spaced (space_code code) t count)
+on_tape profile block_length protected t Erase bytes = unless_protected protected t (erased t, done [])
+on_tape profile block_length protected t (Locate bt cp object partition) bytes = locates object t
+on_tape profile block_length protected t ReadPosition bytes = (t, done (position_data t.position))
+on_tape profile block_length protected t request bytes = (t, refused InvalidCommandOperationCode)
 
 abbrev pub in_volume : DriveView → Volume → TapeView × Outcome → DriveView × Outcome
 in_volume d v step = (record d { bay = Some (record v { tape = step.0 }) }, step.1)
@@ -157,7 +160,7 @@ in_volume d v step = (record d { bay = Some (record v { tape = step.0 }) }, step
 abbrev pub in_bay : DriveView → Option Volume → Request → List ℕ → DriveView × Outcome
 in_bay d None request bytes = (d, refused MediumNotPresent)
 in_bay d (Some v) request bytes =
-    if d.loaded then in_volume d v (on_tape d.block_length v.protected v.tape request bytes) else (d, refused InitializingCommandRequired)
+    if d.loaded then in_volume d v (on_tape Spec d.block_length v.protected v.tape request bytes) else (d, refused InitializingCommandRequired)
 
 abbrev pub rewound : Volume → Volume
 rewound v = record v { tape = moved_to v.tape 0 }
@@ -175,9 +178,14 @@ loads d (Some v) load = (record d { bay = Some (rewound v); loaded = load }, don
 abbrev pub selects : DriveView → (block_length : ℕ) → DriveView × Outcome
 selects d block_length = (record d { block_length = block_length }, set (not (block_length == d.block_length)))
 
+-- the data of READ BLOCK LIMITS: no granularity, and blocks of one byte at least (SSC-4, "READ BLOCK LIMITS command")
+abbrev pub block_limits : Profile → List ℕ
+block_limits Spec = 0x00 ∷ 0x01 ∷ 0x00 ∷ 0x00 ∷ 0x00 ∷ 0x01 ∷ []
+block_limits Hosts = 0x00 ∷ 0x10 ∷ 0x00 ∷ 0x00 ∷ 0x00 ∷ 0x01 ∷ []
+
 -- THE STEP of a drive of the default profile by a command whose fields aren't refused
 abbrev pub drive_step : DriveView → Request → List ℕ → DriveView × Outcome
-drive_step d ReadBlockLimits bytes = (d, done (0x00 ∷ 0x01 ∷ 0x00 ∷ 0x00 ∷ 0x00 ∷ 0x01 ∷ []))
+drive_step d ReadBlockLimits bytes = (d, done (block_limits Spec))
 drive_step d (ModeSelect sp list_length) bytes = selects d (block_length_after d.block_length list_length bytes)
 drive_step d (ModeSense dbd page_control page subpage allocation_length) bytes =
     (d, done (take allocation_length (mode_data (is_protected d.bay) dbd d.block_length)))

@@ -3,11 +3,13 @@
 use Rattle.std.specs.Prelude.{ℕ, ◌==◌, nat_lt, Bool, true, false, not, ◌&&◌, ◌||◌, List, length, Option, Some, None, if◌then◌else◌}
 use Rattle.scsi_cdb.specs.declared.kind.Kind.{Kind}
 use Rattle.scsi_cdb.specs.declared.kind.Kind.TheVariants as kind
+use Rattle.scsi_cdb.specs.declared.profile.Profile.{Profile}
+use Rattle.scsi_cdb.specs.declared.profile.Profile.TheVariants.{Spec}
 use Rattle.scsi_cdb.specs.declared.request.Request.{Request}
 use Rattle.scsi_cdb.specs.declared.request.Request.TheVariants.{Read, Write, WriteFilemarks, Space, ModeSelect, ModeSense, LoadUnload, Locate, MoveMedium, ReadElementStatus}
 use Rattle.scsi_sense.specs.declared.condition.Condition.{Condition}
 use Rattle.scsi_sense.specs.declared.condition.Condition.TheVariants.{InvalidFieldInCdb, SavingParametersNotSupported}
-use Rattle.tape_medium.specs.Limits.{block_limit}
+use Rattle.tape_medium.specs.Limits.{most_block}
 use Rattle.device_server.specs.Mode.{list_fault}
 
 abbrev pub invalid_where : Bool → Option Condition
@@ -30,9 +32,9 @@ mode_sense_fault kind page_control page subpage =
     else invalid_where (not (page_control == 0) || not (subpage == 0) || not (is_page_of kind page))
 
 -- a variable WRITE comes with as many bytes as it says, which make a block; the data of a fixed one is the drive's to look at
-abbrev pub write_fault : (fixed : Bool) → (transfer_length : ℕ) → List ℕ → Option Condition
-write_fault true transfer_length bytes = None
-write_fault false transfer_length bytes = invalid_where (nat_lt block_limit transfer_length || not (length bytes == transfer_length))
+abbrev pub write_fault : Profile → (fixed : Bool) → (transfer_length : ℕ) → List ℕ → Option Condition
+write_fault profile true transfer_length bytes = None
+write_fault profile false transfer_length bytes = invalid_where (nat_lt (most_block profile) transfer_length || not (length bytes == transfer_length))
 
 -- saving mode pages isn't offered
 abbrev pub mode_select_fault : (save_pages : Bool) → (list_length : ℕ) → List ℕ → Option Condition
@@ -41,7 +43,7 @@ mode_select_fault false list_length bytes = list_fault list_length bytes
 
 abbrev pub spec_field_fault : Kind → Request → List ℕ → Option Condition
 spec_field_fault kind (Read sili fixed transfer_length) bytes = invalid_where (sili && fixed)
-spec_field_fault kind (Write fixed transfer_length) bytes = write_fault fixed transfer_length bytes
+spec_field_fault kind (Write fixed transfer_length) bytes = write_fault Spec fixed transfer_length bytes
 spec_field_fault kind (WriteFilemarks wsmk immed count) bytes = invalid_where wsmk
 spec_field_fault kind (Space code count) bytes = invalid_where (not (is_space_code code))
 spec_field_fault kind (ModeSelect sp list_length) bytes = mode_select_fault sp list_length bytes

@@ -1,14 +1,15 @@
 -- A drive of the hosts' profile, by the commands that it carries out otherwise than one of the default profile, or alone (SPC-4, SSC-4).
-use Rattle.std.specs.Prelude.{ℕ, ◌-◌, ◌==◌, Bool, true, false, not, ◌&&◌, ◌||◌, List, [], length, take, Option, Some, None, is_some, Result, Ok, Err, if◌then◌else◌}
+use Rattle.std.specs.Prelude.{ℕ, ◌+◌, ◌-◌, ◌==◌, Bool, true, false, not, ◌&&◌, ◌||◌, List, [], ◌∷◌, ◌++◌, length, take, replicate, Option, Some, None, is_some, Result, Ok, Err, if◌then◌else◌}
 use Rattle.std.specs.Option.{option_map}
 use Rattle.scsi_cdb.specs.declared.host_request.HostRequest.{HostRequest}
 use Rattle.scsi_cdb.specs.declared.host_request.HostRequest.TheVariants.{SendDiagnostic, LogSelect, LogSense, ModeSelect10, ModeSense10, ReportSupportedOperationCodes, ReportSupportedTaskManagementFunctions, PositionToElement, InitializeElementStatusWithRange, ExchangeMedium}
 use Rattle.scsi_cdb.specs.declared.kind.Kind.TheVariants as kind
+use Rattle.scsi_cdb.specs.declared.profile.Profile.TheVariants.{Hosts}
 use Rattle.scsi_cdb.specs.declared.request.Request.{Request}
-use Rattle.scsi_cdb.specs.declared.request.Request.TheVariants.{ReadBlockLimits, Read, Write, ModeSelect, ModeSense, LoadUnload, Host}
+use Rattle.scsi_cdb.specs.declared.request.Request.TheVariants.{ReadBlockLimits, Read, Write, WriteFilemarks, ReadPosition, ModeSelect, ModeSense, LoadUnload, Host}
 use Rattle.scsi_sense.specs.declared.condition.Condition.{Condition}
 use Rattle.scsi_sense.specs.declared.condition.Condition.TheVariants.{MediumNotPresent, InitializingCommandRequired, InvalidCommandOperationCode}
-use Rattle.tape_medium.specs.Limits.{block_limit}
+use Rattle.tape_medium.specs.Limits.{most_block}
 use Rattle.tape_medium.specs.Tape.{bytes_in, behind}
 use Rattle.tape_medium.specs.TapeView.{TapeView}
 use Rattle.tape_medium.specs.declared.volume.Volume.{Volume}
@@ -32,8 +33,9 @@ use Rattle.unit_attention.specs.declared.kind.Kind.{Kind as Attention}
 use Rattle.unit_attention.specs.declared.kind.Kind.TheVariants.{MediumChanged}
 use Rattle.device_server.specs.declared.host_drive.HostDrive.{HostDrive}
 use Rattle.device_server.specs.declared.outcome.Outcome.{Outcome}
+use Rattle.device_server.specs.EarlyWarning.{zone, is_in_zone, warned}
 use Rattle.device_server.specs.Outcomes.{done, set, tells, refused, answers}
-use Rattle.device_server.specs.Drive.{DriveView, empty_drive, is_protected, rewound, on_tape, drive_step}
+use Rattle.device_server.specs.Drive.{DriveView, empty_drive, is_protected, rewound, four, block_limits, on_tape}
 use Rattle.device_server.specs.Hosts.{new_host_drive, mode_sense, log_sense, log_select, told_of_log, codes_answer}
 
 -- a drive with an empty bay, which is this unit
@@ -79,7 +81,21 @@ counted c (Read sili fixed transfer_length) passed sent = counters.read c passed
 counted c (Write fixed transfer_length) passed sent = counters.wrote c passed
 counted c request passed sent = c
 
--- A COMMAND ON THE TAPE is carried out as in the default profile, and counted
+-- the short form of READ POSITION: BOP, and EOP in the early-warning zone, then the position as the first and the last logical object location
+abbrev pub host_position_data : TapeView → List ℕ
+host_position_data t =
+    ((if t.position == 0 then 0x80 else 0x00) + (if is_in_zone t then 0x40 else 0x00)) ∷ replicate 3 0 ++ four t.position ++ four t.position ++ replicate 8 0
+
+-- A COMMAND ON THE TAPE is carried out as in the default profile, but for longer blocks and more of them, and a write that reaches the zone is
+-- warned
+abbrev pub host_on_tape : (block_length : ℕ) → (protected : Bool) → TapeView → Request → List ℕ → TapeView × Outcome
+host_on_tape block_length protected t (Write fixed told) bytes = warned told (on_tape Hosts block_length protected t (Write fixed told) bytes)
+host_on_tape block_length protected t (WriteFilemarks wsmk immed count) bytes =
+    warned count (on_tape Hosts block_length protected t (WriteFilemarks wsmk immed count) bytes)
+host_on_tape block_length protected t ReadPosition bytes = (t, done (host_position_data t))
+host_on_tape block_length protected t request bytes = on_tape Hosts block_length protected t request bytes
+
+-- and counted
 abbrev pub host_in_volume : DriveView → HostDrive → Volume → Request → TapeView × Outcome → DriveView × Outcome
 host_in_volume d h v request step = (
   record d {
@@ -96,13 +112,18 @@ not_ready held = if held then InitializingCommandRequired else MediumNotPresent
 abbrev pub host_in_bay : DriveView → HostDrive → Option Volume → Request → List ℕ → DriveView × Outcome
 host_in_bay d h None request bytes = (d, refused MediumNotPresent)
 host_in_bay d h (Some v) request bytes =
-    if d.loaded then host_in_volume d h v request (on_tape d.block_length v.protected v.tape request bytes)
+    if d.loaded then host_in_volume d h v request (host_on_tape d.block_length v.protected v.tape request bytes)
     else (d, refused (not_ready h.held))
 
--- LOGS. Nothing warns of the end of the tape.
+-- LOGS
 abbrev pub volume_log : Volume → VolumeLog
 volume_log v =
-    record { capacity = v.tape.capacity; to_end_of_data = bytes_in v.tape.objects; position = bytes_in (behind v.tape); early_warning = 0 }
+    record {
+      capacity = v.tape.capacity;
+      to_end_of_data = bytes_in v.tape.objects;
+      position = bytes_in (behind v.tape);
+      early_warning = zone v.tape.capacity;
+    }
 
 abbrev pub drive_log : DriveView → HostDrive → DriveLog
 drive_log d h = record { counters = h.counters; volume = if d.loaded then option_map volume_log d.bay else None }
@@ -119,7 +140,7 @@ host_command_step d h (LogSelect pcr sp control page subpage list_length) bytes 
     host_log_selects d h (log.selected kind.Drive (log_select pcr sp page subpage list_length) (length bytes))
 host_command_step d h (LogSense ppc sp control page subpage pointer allocation_length) bytes =
     (d, answers allocation_length (drive_log_data (log_sense ppc sp page subpage pointer) (drive_log d h)))
-host_command_step d h (ModeSelect10 sp list_length) bytes = host_selects d h (mode.selected (mode_of d h) block_limit Ten sp list_length bytes)
+host_command_step d h (ModeSelect10 sp list_length) bytes = host_selects d h (mode.selected (mode_of d h) (most_block Hosts) Ten sp list_length bytes)
 host_command_step d h (ModeSense10 dbd control page subpage allocation_length) bytes =
     (d, answers allocation_length (drive_answer (mode_sense Ten dbd control page subpage) (mode_state d h)))
 host_command_step d h (ReportSupportedOperationCodes rctd options code action allocation_length) bytes =
@@ -131,8 +152,8 @@ host_command_step d h (InitializeElementStatusWithRange fast range start count) 
 
 -- THE STEP of a drive of the hosts' profile by a command whose fields aren't refused
 abbrev pub host_drive_step : DriveView → HostDrive → Request → List ℕ → DriveView × Outcome
-host_drive_step d h ReadBlockLimits bytes = drive_step d ReadBlockLimits bytes
-host_drive_step d h (ModeSelect sp list_length) bytes = host_selects d h (mode.selected (mode_of d h) block_limit Six sp list_length bytes)
+host_drive_step d h ReadBlockLimits bytes = (d, done (block_limits Hosts))
+host_drive_step d h (ModeSelect sp list_length) bytes = host_selects d h (mode.selected (mode_of d h) (most_block Hosts) Six sp list_length bytes)
 host_drive_step d h (ModeSense dbd control page subpage allocation_length) bytes =
     (d, answers allocation_length (drive_answer (mode_sense Six dbd control page subpage) (mode_state d h)))
 host_drive_step d h (LoadUnload hold eot load) bytes = host_loads d h d.bay hold load

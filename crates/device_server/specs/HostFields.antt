@@ -4,10 +4,11 @@ use Rattle.scsi_cdb.specs.declared.host_request.HostRequest.{HostRequest}
 use Rattle.scsi_cdb.specs.declared.host_request.HostRequest.TheVariants.{SendDiagnostic, LogSelect, LogSense, ModeSelect10, ModeSense10, ReportSupportedOperationCodes, ReportSupportedTaskManagementFunctions, PositionToElement, InitializeElementStatusWithRange, ExchangeMedium}
 use Rattle.scsi_cdb.specs.declared.kind.Kind.{Kind}
 use Rattle.scsi_cdb.specs.declared.kind.Kind.TheVariants as kind
+use Rattle.scsi_cdb.specs.declared.profile.Profile.TheVariants.{Hosts}
 use Rattle.scsi_cdb.specs.declared.request.Request.{Request}
-use Rattle.scsi_cdb.specs.declared.request.Request.TheVariants.{ModeSelect, ModeSense, LoadUnload, Locate, ReadElementStatus, Host}
+use Rattle.scsi_cdb.specs.declared.request.Request.TheVariants.{Write, ModeSelect, ModeSense, LoadUnload, Locate, ReadElementStatus, Host}
 use Rattle.scsi_sense.specs.declared.condition.Condition.{Condition}
-use Rattle.tape_medium.specs.Limits.{block_limit}
+use Rattle.tape_medium.specs.Limits.{most_block}
 use Rattle.mode_pages.specs.ChangerData.{changer_fault}
 use Rattle.mode_pages.specs.DriveData.{drive_fault}
 use Rattle.mode_pages.specs.Select as mode
@@ -19,7 +20,7 @@ use Rattle.log_pages.specs.LogSelect as log
 use Rattle.log_pages.specs.LogSense.{drive_log_fault, changer_log_fault}
 use Rattle.log_pages.specs.declared.log_sense.LogSense.{LogSense as LogQuery}
 use Rattle.supported_commands.specs.Options.{options_at}
-use Rattle.device_server.specs.Fields.{invalid_where, spec_field_fault}
+use Rattle.device_server.specs.Fields.{invalid_where, write_fault, spec_field_fault}
 use Rattle.device_server.specs.Hosts.{mode_sense, log_sense, log_select, codes_fault}
 
 -- why something is refused, if it is
@@ -29,7 +30,7 @@ refusal_of (Err condition) = Some condition
 
 -- MODE SELECT: whether it is refused doesn't depend on the values before
 abbrev pub host_mode_select_fault : HeaderForm → (save_pages : Bool) → (list_length : ℕ) → List ℕ → Option Condition
-host_mode_select_fault form save_pages list_length bytes = refusal_of (mode.selected default_values block_limit form save_pages list_length bytes)
+host_mode_select_fault form save_pages list_length bytes = refusal_of (mode.selected default_values (most_block Hosts) form save_pages list_length bytes)
 
 abbrev pub host_mode_sense_fault : Kind → ModeQuery → Option Condition
 host_mode_sense_fault kind.Drive sense = drive_fault sense
@@ -57,9 +58,10 @@ host_command_fault kind (PositionToElement transport destination invert) bytes =
 host_command_fault kind (InitializeElementStatusWithRange fast range start count) bytes = None
 host_command_fault kind (ExchangeMedium transport source first second inv1 inv2) bytes = invalid_where (inv1 || inv2)
 
--- LOAD UNLOAD: nothing is moved to the end of the tape, and HOLD is for unloading alone (profile). LOCATE: BT is ignored, and with CP there is
+-- WRITE: blocks are longer. LOAD UNLOAD: nothing is moved to the end of the tape, and HOLD is for unloading alone (profile). LOCATE: BT is ignored, and with CP there is
 -- just partition 0. READ ELEMENT STATUS: device identifiers can be asked for.
 abbrev pub host_field_fault : Kind → Request → List ℕ → Option Condition
+host_field_fault kind (Write fixed transfer_length) bytes = write_fault Hosts fixed transfer_length bytes
 host_field_fault kind (ModeSelect sp list_length) bytes = host_mode_select_fault Six sp list_length bytes
 host_field_fault kind (ModeSense dbd control page subpage allocation_length) bytes =
     host_mode_sense_fault kind (mode_sense Six dbd control page subpage)

@@ -1,9 +1,14 @@
 -- Worked rows: what a host gets from a drive of the hosts' profile, byte by byte, and the drive after it.
 use Rattle.std.specs.Prelude.{◌≡◌, ℕ, true, false, List, [], ◌∷◌, ◌++◌, length, replicate, Some, None}
 use Rattle.scsi_cdb.specs.declared.host_request.HostRequest.TheVariants.{SendDiagnostic, LogSelect, LogSense, ModeSelect10, ModeSense10, ReportSupportedOperationCodes, ReportSupportedTaskManagementFunctions, PositionToElement, InitializeElementStatusWithRange}
-use Rattle.scsi_cdb.specs.declared.profile.Profile.TheVariants.{Hosts}
+use Rattle.scsi_cdb.specs.declared.kind.Kind.TheVariants as kind
+use Rattle.scsi_cdb.specs.declared.profile.Profile.TheVariants.{Spec, Hosts}
+use Rattle.scsi_cdb.specs.Kinds.{commands}
 use Rattle.scsi_cdb.specs.declared.request.Request.TheVariants.{TestUnitReady, ReadBlockLimits, Read, Write, WriteFilemarks, ModeSelect, ModeSense, LoadUnload, Locate, ReadPosition, Host}
-use Rattle.tape_medium.specs.Object.{Block, Mark}
+use Rattle.scsi_sense.specs.declared.condition.Condition.TheVariants.{InvalidFieldInCdb}
+use Rattle.scsi_sense.specs.CarriedOut.{is_carried_out}
+use Rattle.scsi_sense.specs.declared.status.Status.TheVariants.{CheckCondition}
+use Rattle.tape_medium.specs.Object.{Object, Block, Mark}
 use Rattle.tape_medium.specs.Tape.{blank}
 use Rattle.tape_medium.specs.TapeView.{TapeView}
 use Rattle.tape_medium.specs.declared.volume.VolumeTag.{VolumeTag}
@@ -11,9 +16,14 @@ use Rattle.inquiry_data.specs.Identity as identity
 use Rattle.inquiry_data.specs.declared.unit_identity.UnitIdentity.{UnitIdentity}
 use Rattle.unit_attention.specs.declared.kind.Kind.TheVariants.{MediumChanged, ModeParametersChanged, LogParametersChanged}
 use Rattle.device_server.specs.declared.host_drive.HostDrive.{HostDrive}
+use Rattle.device_server.specs.Drive.{is_fixed_transfer}
+use Rattle.device_server.specs.EarlyWarning.{zone, is_near_the_end, early_warning}
+use Rattle.device_server.specs.FieldFaults.{field_fault_of}
 use Rattle.device_server.specs.Hosts.{new_host_drive}
 use Rattle.device_server.specs.HostDrive.{empty_host_drive}
+use Rattle.device_server.specs.Senses as senses
 use Rattle.device_server.specs.View.{DeviceView, Drive, identity_of, profile_of, reset_of}
+use Rattle.device_server.specs.Rows as rows
 use Rattle.device_server.specs.Rows.{asked, sent, gives, checks, selects, sense, volume, block_and_mark, not_present, not_loaded}
 
 -- the first drive of library 1A2B3C4Dh
@@ -95,7 +105,7 @@ pub record PositionsForHosts (tag : VolumeTag) : Type 0 where
   pub first_partition : asked (loaded tag fresh 0 (four_marks 3)) (Locate false true 1 0) ≡ gives (loaded tag fresh 0 (four_marks 1)) []
   pub other_partition : asked (loaded tag fresh 0 (four_marks 3)) (Locate false true 1 1) ≡ checks (loaded tag fresh 0 (four_marks 3)) [] wrong_field
   pub no_partition : asked (loaded tag fresh 0 (four_marks 3)) (Locate false false 1 1) ≡ gives (loaded tag fresh 0 (four_marks 1)) []
-  pub limits : asked empty ReadBlockLimits ≡ gives empty (0x00 ∷ 0x01 ∷ 0x00 ∷ 0x00 ∷ 0x00 ∷ 0x01 ∷ [])
+  pub limits : asked empty ReadBlockLimits ≡ gives empty (0x00 ∷ 0x10 ∷ 0x00 ∷ 0x00 ∷ 0x00 ∷ 0x01 ∷ [])
 
 -- a block descriptor of blocks of any length, then the Data Compression page without DCE
 abbrev pub compression_off : List ℕ
@@ -112,6 +122,10 @@ pub record ModesForHosts (tag : VolumeTag) : Type 0 where
       ≡ selects (loaded tag uncompressed 0 (four_marks 1)) (Some ModeParametersChanged)
   pub block_length : sent (loaded tag fresh 0 (four_marks 1)) (ModeSelect false 12) (0x00 ∷ 0x00 ∷ 0x10 ∷ 0x08 ∷ replicate 6 0 ++ 0x02 ∷ 0x00 ∷ [])
       ≡ selects (loaded tag fresh 512 (four_marks 1)) (Some ModeParametersChanged)
+  pub longest_blocks : sent (loaded tag fresh 0 (four_marks 1)) (ModeSelect false 12) (0x00 ∷ 0x00 ∷ 0x10 ∷ 0x08 ∷ replicate 5 0 ++ 0x10 ∷ 0x00 ∷ 0x00 ∷ [])
+      ≡ selects (loaded tag fresh 1048576 (four_marks 1)) (Some ModeParametersChanged)
+  pub too_long_blocks : sent (loaded tag fresh 0 (four_marks 1)) (ModeSelect false 12) (0x00 ∷ 0x00 ∷ 0x10 ∷ 0x08 ∷ replicate 5 0 ++ 0x10 ∷ 0x00 ∷ 0x01 ∷ [])
+      ≡ checks (loaded tag fresh 0 (four_marks 1)) [] (sense 0x70 0x05 0x00 0x00 0x00 0x00 0x26 0x00)
   pub no_list : asked (loaded tag uncompressed 512 (four_marks 1)) (ModeSelect false 0) ≡ selects (loaded tag uncompressed 512 (four_marks 1)) None
   pub configuration : asked (loaded tag uncompressed 0 (four_marks 1)) (ModeSense true 0 0x10 0x00 255)
       ≡ gives (loaded tag uncompressed 0 (four_marks 1))
@@ -180,3 +194,71 @@ pub record CommandsForHosts : Type 0 where
   pub page_sent : asked empty (Host (SendDiagnostic 0 false 4)) ≡ checks empty [] wrong_field
   pub positioned : asked empty (Host (PositionToElement 0 0x100 false)) ≡ checks empty [] no_command
   pub initialized : asked empty (Host (InitializeElementStatusWithRange false true 0x100 1)) ≡ checks empty [] no_command
+
+-- how many bytes one command moves, in either profile: 64 KiB and 1 MiB, in one block or in blocks of the mode's length
+pub record TransfersForHosts (tag : VolumeTag) : Type 0 where
+  pub longest : (bytes : List ℕ) → length bytes ≡ 1048576 → field_fault_of (commands Hosts kind.Drive) (Write false 1048576) bytes ≡ None
+  pub longer : field_fault_of (commands Hosts kind.Drive) (Write false 1048577) (replicate 4 7) ≡ Some InvalidFieldInCdb
+  pub longer_in_spec : field_fault_of (commands Spec kind.Drive) (Write false 1048576) (replicate 4 7) ≡ Some InvalidFieldInCdb
+  pub other_length : field_fault_of (commands Hosts kind.Drive) (Write false 5) (replicate 4 7) ≡ Some InvalidFieldInCdb
+  pub fixed : is_fixed_transfer Hosts 512 2048 ≡ true
+  pub fixed_longer : is_fixed_transfer Hosts 512 2049 ≡ false
+  pub fixed_in_spec : is_fixed_transfer Spec 512 128 ≡ true
+  pub fixed_longer_in_spec : is_fixed_transfer Spec 512 129 ≡ false
+  pub no_length : is_fixed_transfer Hosts 0 1 ≡ false
+  pub refused : asked (loaded tag fresh 512 (four_marks 0)) (Read false true 2049) ≡ checks (loaded tag fresh 512 (four_marks 0)) [] wrong_field
+  pub not_refused : asked (loaded tag fresh 512 (four_marks 0)) (Read false true 2048)
+      ≡ checks (loaded tag fresh 512 (four_marks 1)) [] (sense 0xf0 0x80 0x00 0x00 0x08 0x00 0x00 0x01)
+
+-- where the early-warning zone begins: 2 MiB before the end of 16 MiB, 4 of 32, 8 of 1 GiB, and 256 of 64 GiB
+pub record ZonesOfVolumes : Type 0 where
+  pub of_16_mebibytes : zone 16777216 ≡ 2097152
+  pub of_32_mebibytes : zone 33554432 ≡ 4194304
+  pub of_a_gibibyte : zone 1073741824 ≡ 8388608
+  pub of_64_gibibytes : zone 68719476736 ≡ 268435456
+  pub of_7_bytes : zone 7 ≡ 0
+  pub before_it : is_near_the_end 16777216 14680064 1 ≡ false
+  pub in_it : is_near_the_end 16777216 14680065 1 ≡ true
+  pub at_the_start : is_near_the_end 7 0 0 ≡ false
+  pub of_7_bytes_at_the_end : is_near_the_end 7 7 7 ≡ false
+  pub objects_left : is_near_the_end 68719476736 0 16773120 ≡ false
+  pub few_objects_left : is_near_the_end 68719476736 0 16773121 ≡ true
+
+-- a tape for 80 bytes, the zone of which has 10, with one block and so many more objects
+abbrev pub nearly_full : (first : ℕ) → List Object → (position : ℕ) → TapeView
+nearly_full first more position = record (blank 80) { objects = Block (replicate first 7) ∷ more; position = position }
+
+abbrev pub warning : List ℕ
+warning = sense 0xf0 0x40 0x00 0x00 0x00 0x00 0x00 0x02
+
+-- a write that leaves the position in the zone is carried out and warned, each time, until the tape is full; nothing else is
+pub record EarlyWarnings (tag : VolumeTag) : Type 0 where
+  pub up_to_the_zone : sent (loaded tag fresh 0 (nearly_full 69 [] 1)) (Write false 1) (1 ∷ [])
+      ≡ gives (loaded tag (counting 1 0 0) 0 (nearly_full 69 (Block (1 ∷ []) ∷ []) 2)) []
+  pub into_the_zone : sent (loaded tag fresh 0 (nearly_full 70 [] 1)) (Write false 1) (1 ∷ [])
+      ≡ checks (loaded tag (counting 1 0 0) 0 (nearly_full 70 (Block (1 ∷ []) ∷ []) 2)) [] warning
+  pub of_blocks : sent (loaded tag fresh 2 (nearly_full 70 [] 1)) (Write true 2) (1 ∷ 2 ∷ 3 ∷ 4 ∷ [])
+      ≡ checks (loaded tag (counting 4 0 0) 2 (nearly_full 70 (Block (1 ∷ 2 ∷ []) ∷ Block (3 ∷ 4 ∷ []) ∷ []) 3)) [] warning
+  pub of_marks : asked (loaded tag fresh 0 (nearly_full 71 [] 1)) (WriteFilemarks false false 1)
+      ≡ checks (loaded tag fresh 0 (nearly_full 71 (Mark ∷ []) 2)) [] warning
+  pub of_no_marks : asked (loaded tag fresh 0 (nearly_full 71 [] 1)) (WriteFilemarks false false 0) ≡ gives (loaded tag fresh 0 (nearly_full 71 [] 1)) []
+  pub of_no_block : asked (loaded tag fresh 0 (nearly_full 71 [] 1)) (Write false 0) ≡ gives (loaded tag fresh 0 (nearly_full 71 [] 1)) []
+  pub to_the_end : sent (loaded tag fresh 0 (nearly_full 78 [] 1)) (Write false 2) (1 ∷ 2 ∷ [])
+      ≡ checks (loaded tag (counting 2 0 0) 0 (nearly_full 78 (Block (1 ∷ 2 ∷ []) ∷ []) 2)) [] warning
+  pub full : sent (loaded tag fresh 0 (nearly_full 79 [] 1)) (Write false 2) (1 ∷ 2 ∷ [])
+      ≡ checks (loaded tag fresh 0 (nearly_full 79 [] 1)) [] (sense 0xf0 0x4d 0x00 0x00 0x00 0x02 0x00 0x02)
+  pub from_the_start : sent (loaded tag fresh 0 (nearly_full 79 [] 0)) (Write false 1) (1 ∷ [])
+      ≡ gives (loaded tag (counting 1 0 0) 0 (record (blank 80) { objects = Block (1 ∷ []) ∷ []; position = 1 })) []
+  pub by_a_read : asked (loaded tag fresh 0 (nearly_full 71 [] 0)) (Read false false 71) ≡ gives (loaded tag (counting 0 71 71) 0 (nearly_full 71 [] 1)) (replicate 71 7)
+  pub position_there : asked (loaded tag fresh 0 (nearly_full 71 [] 1)) ReadPosition
+      ≡ gives (loaded tag fresh 0 (nearly_full 71 [] 1))
+      (0x40 ∷ 0x00 ∷ 0x00 ∷ 0x00 ∷ 0x00 ∷ 0x00 ∷ 0x00 ∷ 0x01 ∷ 0x00 ∷ 0x00 ∷ 0x00 ∷ 0x01 ∷ replicate 8 0)
+  pub position_before : asked (loaded tag fresh 0 (nearly_full 70 [] 1)) ReadPosition
+      ≡ gives (loaded tag fresh 0 (nearly_full 70 [] 1))
+      (0x00 ∷ 0x00 ∷ 0x00 ∷ 0x00 ∷ 0x00 ∷ 0x00 ∷ 0x00 ∷ 0x01 ∷ 0x00 ∷ 0x00 ∷ 0x00 ∷ 0x01 ∷ replicate 8 0)
+  pub not_in_spec : sent (rows.loaded tag 0 (nearly_full 70 [] 1)) (Write false 1) (1 ∷ []) ≡ gives (rows.loaded tag 0 (nearly_full 70 (Block (1 ∷ []) ∷ []) 2)) []
+  pub warning_is_carried_out : is_carried_out CheckCondition (Some early_warning) ≡ true
+  pub overflow_is_not : is_carried_out CheckCondition (Some (senses.past_the_end 1)) ≡ false
+  pub mark_is_not : is_carried_out CheckCondition (Some (senses.at_mark 1)) ≡ false
+  pub length_is_not : is_carried_out CheckCondition (Some (senses.of_other_length 1)) ≡ false
+  pub beginning_is_not : is_carried_out CheckCondition (Some (senses.at_beginning 1)) ≡ false

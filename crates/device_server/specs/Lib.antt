@@ -15,6 +15,7 @@ pub mod Rows
 pub mod ChangerRows
 pub mod HostRows
 pub mod HostChangerRows
+pub mod EarlyWarning
 pub mod Ends
 pub mod ByProfile
 pub mod Settled

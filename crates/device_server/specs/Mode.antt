@@ -3,7 +3,8 @@
 use Rattle.std.specs.Prelude.{ℕ, ◌+◌, ◌*◌, ◌/◌, ◌%◌, ◌^◌, ◌==◌, nat_lt, Bool, ◌&&◌, not, List, [], ◌∷◌, length, slice_index, Option, Some, None, if◌then◌else◌}
 use Rattle.scsi_sense.specs.declared.condition.Condition.{Condition}
 use Rattle.scsi_sense.specs.declared.condition.Condition.TheVariants.{ParameterListLengthError, InvalidFieldInParameterList}
-use Rattle.tape_medium.specs.Limits.{block_limit}
+use Rattle.scsi_cdb.specs.declared.profile.Profile.TheVariants.{Spec}
+use Rattle.tape_medium.specs.Limits.{most_block}
 
 -- a number of three bytes, the highest first
 abbrev pub three : ℕ → List ℕ
@@ -29,7 +30,7 @@ list_fault told list =
     else if nat_lt told 4 then Some ParameterListLengthError
     else if not (descriptor_length list == 0) && not (descriptor_length list == 8) then Some InvalidFieldInParameterList
     else if not (told == 4 + descriptor_length list) then Some ParameterListLengthError
-    else if descriptor_length list == 8 && nat_lt block_limit (block_length_in list) then Some InvalidFieldInParameterList
+    else if descriptor_length list == 8 && nat_lt (most_block Spec) (block_length_in list) then Some InvalidFieldInParameterList
     else None
 
 -- the block length after a MODE SELECT whose list isn't refused: one without a block descriptor leaves it

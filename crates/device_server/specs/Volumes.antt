@@ -5,6 +5,7 @@ use Rattle.scsi_cdb.specs.declared.host_request.HostRequest.{HostRequest}
 use Rattle.scsi_cdb.specs.declared.host_request.HostRequest.TheVariants.{ExchangeMedium}
 use Rattle.scsi_cdb.specs.declared.request.Request.{Request}
 use Rattle.scsi_cdb.specs.declared.request.Request.TheVariants.{Write, WriteFilemarks, Erase, MoveMedium, Host}
+use Rattle.scsi_sense.specs.CarriedOut.{is_carried_out}
 use Rattle.scsi_sense.specs.declared.status.Status.TheVariants.{Good}
 use Rattle.tape_medium.specs.declared.volume.VolumeTag.{VolumeTag}
 use Rattle.tape_medium.specs.declared.volume.Volume.{Volume}
@@ -99,9 +100,10 @@ is_move (MoveMedium transport source destination invert) = true
 is_move (Host command) = is_exchange command
 is_move request = false
 
--- a command changes nothing of the kind where it isn't one of those, or isn't GOOD
+-- a command changes nothing of the kind where it isn't one of those, or isn't carried out: a write that is neither GOOD nor ends at early
+-- warning, a move that isn't GOOD
 abbrev pub WritesNothing : Request → Outcome → Type 0
-WritesNothing request outcome = (is_write request ≡ false) ⊎ (outcome.status ≢ Good)
+WritesNothing request outcome = (is_write request ≡ false) ⊎ (is_carried_out outcome.status outcome.sense ≡ false)
 
 abbrev pub MovesNothing : Request → Outcome → Type 0
 MovesNothing request outcome = (is_move request ≡ false) ⊎ (outcome.status ≢ Good)
@@ -111,7 +113,7 @@ abbrev pub DrivesKeepTheirVolume : Type 0
 DrivesKeepTheirVolume = (device : DeviceView) (request : Request) (bytes : List ℕ) → kind_of device ≡ kind.Drive
     → Keeps SameCartridge device (performed device request bytes).0
 
--- and what is on its tape, but by a WRITE, WRITE FILEMARKS or ERASE that is GOOD
+-- and what is on its tape, but by a WRITE, WRITE FILEMARKS or ERASE that is carried out
 abbrev pub DrivesKeepTheirTape : Type 0
 DrivesKeepTheirTape = (device : DeviceView) (request : Request) (bytes : List ℕ) → kind_of device ≡ kind.Drive
     → WritesNothing request (performed device request bytes).1 → Keeps SameVolume device (performed device request bytes).0

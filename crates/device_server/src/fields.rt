@@ -11,7 +11,7 @@ use crate::mode_layout::{
 use byteorder::{BigEndian, ByteOrder};
 use scsi_cdb::{CommandSet, Kind, Profile, Request};
 use scsi_sense::Condition;
-use tape_medium::MAX_BLOCK;
+use tape_medium::most_block;
 
 /// PC of the saved values.
 const SAVED_VALUES: u8 = 3;
@@ -43,7 +43,7 @@ pub(crate) fn spec_field_fault(kind: Kind, request: &Request, bytes: &[u8]) -> O
         Request::Write {
             fixed,
             transfer_length,
-        } => write_fault(*fixed, *transfer_length, bytes),
+        } => write_fault(Profile::Spec, *fixed, *transfer_length, bytes),
         Request::WriteFilemarks {
             write_setmarks,
             immediate: _,
@@ -128,13 +128,19 @@ fn mode_sense_fault(kind: Kind, page_control: u8, page: u8, subpage: u8) -> Opti
     invalid_where(page_control != 0 || subpage != 0 || !is_page_of(kind, page))
 }
 
-fn write_fault(fixed: bool, transfer_length: u32, bytes: &[u8]) -> Option<Condition>
-    ensures { result ≡ write_fault fixed transfer_length bytes.now }
+/// What is refused of a WRITE in a library of a profile.
+pub(crate) fn write_fault(
+    profile: Profile,
+    fixed: bool,
+    transfer_length: u32,
+    bytes: &[u8],
+) -> Option<Condition>
+    ensures { result ≡ write_fault profile fixed transfer_length bytes.now }
 {
     if fixed {
         return None;
     }
-    invalid_where(transfer_length > MAX_BLOCK || bytes.len() != transfer_length as usize)
+    invalid_where(transfer_length > most_block(profile) || bytes.len() != transfer_length as usize)
 }
 
 fn mode_select_fault(save_pages: bool, list_length: u8, bytes: &[u8]) -> Option<Condition>
@@ -163,7 +169,9 @@ fn list_fault(told: usize, list: &[u8]) -> Option<Condition>
     if told != MODE_HEADER + usize::from(descriptor) {
         return Some(Condition::ParameterListLengthError);
     }
-    if descriptor == BLOCK_DESCRIPTOR && BigEndian::read_u24(&list[BLOCK_LENGTH..]) > MAX_BLOCK {
+    if descriptor == BLOCK_DESCRIPTOR
+        && BigEndian::read_u24(&list[BLOCK_LENGTH..]) > most_block(Profile::Spec)
+    {
         return Some(Condition::InvalidFieldInParameterList);
     }
     None

@@ -4,20 +4,24 @@ ghost use Rattle.supported_commands.specs.Options.{options_at};
 ghost use Rattle.device_server.specs.Hosts.{codes_fault};
 ghost use Rattle.device_server.specs.HostFields.{host_field_fault, host_command_fault, host_mode_select_fault, host_mode_sense_fault, log_sense_fault};
 
-use crate::fields::{LAST_ELEMENT_TYPE, invalid_where, spec_field_fault};
+use crate::fields::{LAST_ELEMENT_TYPE, invalid_where, spec_field_fault, write_fault};
 use crate::host_queries::{codes_query, log_query, mode_query};
 use log_pages::{LogSelect, LogSense, changer_log_fault, drive_log_fault};
 use mode_pages::{HeaderForm, ModeSense, ModeValues, changer_mode_fault, drive_mode_fault};
-use scsi_cdb::{HostRequest, Kind, Request};
+use scsi_cdb::{HostRequest, Kind, Profile, Request};
 use scsi_sense::Condition;
 use supported_commands::{ReportingOptions, operation_codes_fault};
-use tape_medium::MAX_BLOCK;
+use tape_medium::most_block;
 
 /// What is refused of a device's command, the first in order (SPC-4, SSC-4 and SMC-3, the clauses of the commands).
 pub(crate) fn host_field_fault(kind: Kind, request: &Request, bytes: &[u8]) -> Option<Condition>
     ensures { result ≡ host_field_fault kind request.now bytes.now }
 {
     match request {
+        Request::Write {
+            fixed,
+            transfer_length,
+        } => write_fault(Profile::Hosts, *fixed, *transfer_length, bytes),
         Request::ModeSelect {
             save_pages,
             parameter_list_length,
@@ -65,7 +69,6 @@ pub(crate) fn host_field_fault(kind: Kind, request: &Request, bytes: &[u8]) -> O
         | Request::ReadBlockLimits
         | Request::InitializeElementStatus
         | Request::Read { .. }
-        | Request::Write { .. }
         | Request::WriteFilemarks { .. }
         | Request::Space { .. }
         | Request::Inquiry { .. }
@@ -177,7 +180,8 @@ fn mode_select_fault(
     ensures { result ≡ host_mode_select_fault form save_pages list_length bytes.now }
 {
     let before = ModeValues::default();
-    mode_pages::selected(before, MAX_BLOCK, form, save_pages, list_length, bytes).err()
+    let most = most_block(Profile::Hosts);
+    mode_pages::selected(before, most, form, save_pages, list_length, bytes).err()
 }
 
 fn mode_sense_fault(kind: Kind, query: &ModeSense) -> Option<Condition>

@@ -139,7 +139,8 @@ pub fn volumes_of_devices()
 {}
 
 /// Law: each volume stays where it is through commands and resets, but by a MOVE MEDIUM that is GOOD, which carries just one, and an
-/// EXCHANGE MEDIUM that is GOOD, which carries two. What is on a tape changes only by a WRITE, WRITE FILEMARKS or ERASE that is GOOD.
+/// EXCHANGE MEDIUM that is GOOD, which carries two. What is on a tape changes only by a WRITE, WRITE FILEMARKS or ERASE that is
+/// carried out: that is GOOD, or ends at early warning.
 pub fn volumes_stay_in_place()
     ensures drives { DrivesKeepTheirVolume }
     ensures tapes { DrivesKeepTheirTape }
@@ -184,7 +185,7 @@ pub fn settling_changes_nothing_else()
     ensures rows { (tag : VolumeTag) → SettledDevices tag }
 {}
 
-ghost use Rattle.device_server.specs.HostRows.{ReadinessForHosts, PositionsForHosts, ModesForHosts, CountersForHosts, LogsForHosts, CommandsForHosts};
+ghost use Rattle.device_server.specs.HostRows.{ReadinessForHosts, PositionsForHosts, ModesForHosts, CountersForHosts, LogsForHosts, CommandsForHosts, TransfersForHosts, ZonesOfVolumes, EarlyWarnings};
 ghost use Rattle.device_server.specs.HostChangerRows.{JourneysForHosts, ExchangesForHosts, IdentitiesForHosts, AnswersOfAHostsChanger};
 
 /// A drive of the hosts' profile: volumes that are ejected, held and loaded, and positions.
@@ -208,6 +209,14 @@ pub fn logs_for_hosts()
     ensures commands { CommandsForHosts }
 {}
 
+/// How much it moves by one command, where its tapes warn of their end, and which writes are warned.
+#[tactic(auto, unfolding(crate::specs::View::profile_of))]
+pub fn early_warnings()
+    ensures transfers { (tag : VolumeTag) → TransfersForHosts tag }
+    ensures zones { ZonesOfVolumes }
+    ensures warnings { (tag : VolumeTag) → EarlyWarnings tag }
+{}
+
 /// A changer of the hosts' profile: from where volumes came, and which drives there are.
 #[tactic(auto, unfolding(crate::specs::View::profile_of, hex::specs::Hex::encode_with))]
 pub fn journeys_for_hosts()
@@ -222,13 +231,14 @@ pub fn answers_of_a_hosts_changer()
     ensures { (a : VolumeTag) → AnswersOfAHostsChanger a }
 {}
 
-ghost use Rattle.device_server.specs.ByProfile.{FieldsOfSpec, DrivesOfSpec, ChangersOfSpec, IdentitiesAreOfHosts, FieldsDecideHostCommands, FieldsDecideModeSelect, FieldsDecideModeSense, ModeSelectTellsChanges};
+ghost use Rattle.device_server.specs.ByProfile.{FieldsOfSpec, DrivesOfSpec, DrivesOfSpecNeverWarn, ChangersOfSpec, IdentitiesAreOfHosts, FieldsDecideHostCommands, FieldsDecideModeSelect, FieldsDecideModeSense, ModeSelectTellsChanges};
 
 /// Law: a device without an identity is of the default profile. What fields refuse there, and the steps of its drives and changers, are the
-/// definitions that know of no other profile.
+/// definitions that know of no other profile. Such a drive never warns of the end of its tape.
 pub fn default_profile_is_as_it_was()
     ensures fields { FieldsOfSpec }
     ensures drives { DrivesOfSpec }
+    ensures warnings { DrivesOfSpecNeverWarn }
     ensures changers { ChangersOfSpec }
     ensures identities { IdentitiesAreOfHosts }
 {}

@@ -1,7 +1,7 @@
 use std::alloc::{AllocError, Global};
 use std::marker::Model;
 
-/// The data of an answer: at most 65,536 bytes, as many as one command reads (profile). Contracts see its bytes.
+/// The data of an answer: at most as many bytes as one command reads in any profile. Contracts see its bytes.
 #[derive(Drop)]
 pub struct Payload {
     bytes: Vec<u8>,
@@ -58,7 +58,7 @@ impl Payload {
         self
     }
 
-    /// The bytes, at most 65,536.
+    /// The bytes, at most as many as one command reads in any profile.
     pub fn bytes(&self) -> &[u8]
         ensures bytes { result.now ≡ self.now }
         ensures short { length self.now ≤ data_limit }

@@ -1,7 +1,8 @@
 //! The parameter data of READ ELEMENT STATUS.
 
 ghost use Rattle.std.specs.Prelude.{◌≡◌, ◌<◌, ◌≤◌, ◌+◌, ◌*◌, ◌^◌, ◌∷◌, [], ◌++◌, length, vec_len, vec_capacity, IfOk};
-ghost use Rattle.tape_medium.specs.Limits.{block_limit};
+ghost use Rattle.scsi_cdb.specs.declared.profile.Profile.TheVariants.{Spec};
+ghost use Rattle.tape_medium.specs.Limits.{most_block};
 ghost use Rattle.tape_medium.specs.ElementStatus.{two_bytes, three_bytes, descriptor_length, tag_information, descriptor, page_of, element_status};
 ghost use Rattle.element_map.specs.Runs.{code_of, page_length, in_run, IsRun};
 ghost use Rattle.element_map.specs.Pages.{reported_at, page_header, descriptors};
@@ -27,7 +28,7 @@ impl Elements {
         voltag: bool,
     ) -> Result<Vec<u8>, AllocError>
         ensures status { IfOk result (λ bytes. bytes.items ≡ element_status self.now type_code start count voltag) }
-        ensures short { IfOk result (λ bytes. length bytes.items ≤ block_limit) }
+        ensures short { IfOk result (λ bytes. length bytes.items ≤ most_block Spec) }
     {
         let report = self.report(type_code, start, count);
         let length = report.length(voltag);

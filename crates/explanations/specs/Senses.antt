@@ -6,7 +6,7 @@ use Rattle.scsi_sense.specs.Conditions.{sense_for}
 use Rattle.scsi_sense.specs.SenseKeys.{key_code}
 use Rattle.scsi_sense.specs.Text.{condition_name, key_name}
 use Rattle.scsi_sense.specs.declared.condition.Condition.{Condition}
-use Rattle.scsi_sense.specs.declared.condition.Condition.TheVariants.{NoAdditionalSenseInformation, FilemarkDetected, BeginningOfMediumDetected, InitializingCommandRequired, MediumNotPresent, InternalTargetFailure, ParameterListLengthError, InvalidCommandOperationCode, InvalidElementAddress, InvalidFieldInCdb, LogicalUnitNotSupported, InvalidFieldInParameterList, InvalidReleaseOfPersistentReservation, SavingParametersNotSupported, MediumDestinationElementFull, MediumSourceElementEmpty, MediumRemovalPrevented, InsufficientRegistrationResources, NotReadyToReadyChange, PowerOnOrResetOccurred, BusDeviceResetFunctionOccurred, NexusLossOccurred, ModeParametersChanged, LogParametersChanged, ReservationsPreempted, ReservationsReleased, RegistrationsPreempted, WriteProtected, EndOfDataDetected, EndOfMediumDetected}
+use Rattle.scsi_sense.specs.declared.condition.Condition.TheVariants.{NoAdditionalSenseInformation, FilemarkDetected, EarlyWarning, BeginningOfMediumDetected, InitializingCommandRequired, MediumNotPresent, InternalTargetFailure, ParameterListLengthError, InvalidCommandOperationCode, InvalidElementAddress, InvalidFieldInCdb, LogicalUnitNotSupported, InvalidFieldInParameterList, InvalidReleaseOfPersistentReservation, SavingParametersNotSupported, MediumDestinationElementFull, MediumSourceElementEmpty, MediumRemovalPrevented, InsufficientRegistrationResources, NotReadyToReadyChange, PowerOnOrResetOccurred, BusDeviceResetFunctionOccurred, NexusLossOccurred, ModeParametersChanged, LogParametersChanged, ReservationsPreempted, ReservationsReleased, RegistrationsPreempted, WriteProtected, EndOfDataDetected, EndOfMediumDetected}
 use Rattle.scsi_sense.specs.declared.sense.Sense.{Sense}
 use Rattle.scsi_sense.specs.declared.sense_key.SenseKey.{SenseKey}
 use Rattle.scsi_sense.specs.declared.sense_key.SenseKey.TheVariants.{NoSense, NotReady, HardwareError, IllegalRequest, UnitAttention, DataProtect, BlankCheck, VolumeOverflow}
@@ -16,7 +16,7 @@ abbrev pub every_key : List SenseKey
 every_key = NoSense ∷ NotReady ∷ HardwareError ∷ IllegalRequest ∷ UnitAttention ∷ DataProtect ∷ BlankCheck ∷ VolumeOverflow ∷ []
 
 abbrev pub every_condition : List Condition
-every_condition = NoAdditionalSenseInformation ∷ FilemarkDetected ∷ BeginningOfMediumDetected ∷ InitializingCommandRequired ∷ MediumNotPresent ∷ InternalTargetFailure ∷ ParameterListLengthError ∷ InvalidCommandOperationCode ∷ InvalidElementAddress ∷ InvalidFieldInCdb ∷ LogicalUnitNotSupported ∷ InvalidFieldInParameterList ∷ InvalidReleaseOfPersistentReservation ∷ SavingParametersNotSupported ∷ MediumDestinationElementFull ∷ MediumSourceElementEmpty ∷ MediumRemovalPrevented ∷ InsufficientRegistrationResources ∷ NotReadyToReadyChange ∷ PowerOnOrResetOccurred ∷ BusDeviceResetFunctionOccurred ∷ NexusLossOccurred ∷ ModeParametersChanged ∷ LogParametersChanged ∷ ReservationsPreempted ∷ ReservationsReleased ∷ RegistrationsPreempted ∷ WriteProtected ∷ EndOfDataDetected ∷ EndOfMediumDetected ∷ []
+every_condition = NoAdditionalSenseInformation ∷ FilemarkDetected ∷ EarlyWarning ∷ BeginningOfMediumDetected ∷ InitializingCommandRequired ∷ MediumNotPresent ∷ InternalTargetFailure ∷ ParameterListLengthError ∷ InvalidCommandOperationCode ∷ InvalidElementAddress ∷ InvalidFieldInCdb ∷ LogicalUnitNotSupported ∷ InvalidFieldInParameterList ∷ InvalidReleaseOfPersistentReservation ∷ SavingParametersNotSupported ∷ MediumDestinationElementFull ∷ MediumSourceElementEmpty ∷ MediumRemovalPrevented ∷ InsufficientRegistrationResources ∷ NotReadyToReadyChange ∷ PowerOnOrResetOccurred ∷ BusDeviceResetFunctionOccurred ∷ NexusLossOccurred ∷ ModeParametersChanged ∷ LogParametersChanged ∷ ReservationsPreempted ∷ ReservationsReleased ∷ RegistrationsPreempted ∷ WriteProtected ∷ EndOfDataDetected ∷ EndOfMediumDetected ∷ []
 
 -- the sense key with a code, and the condition with a key and codes; none where there is none
 unfoldable pub key_with : ℕ → Option SenseKey

@@ -2,6 +2,7 @@
 use Rattle.std.proofs.Common.{◌≡◌, ℕ, ◌+◌, ◌-◌, ◌≤◌, ◌<◌, Bool, true, false, cond, ltb, leb, eqb, inl, inr, List, [], ◌∷◌, ◌++◌, length, take, drop, Option, None, Some, Result, Ok, Err, refl, sym, ap, ◌∙◌, length-append, arith}
 use Rattle.std.proofs.lemmas.List.{take-append-le, drop-append-le}
 use Rattle.std.proofs.lemmas.Bool.{le-ltb, lt-ltb, leb-true, cases_lt}
+use Rattle.scsi_cdb.specs.declared.profile.Profile.{Profile}
 use Rattle.byteorder.specs.Endian.{big_number}
 use Rattle.byteorder.specs.Numbers.{big_from-append}
 use Rattle.scsi_sense.specs.declared.fault.SenseFault.{SenseFault}
@@ -110,24 +111,24 @@ reply_body_stays size (kind ∷ fields) more known =
     (λ is here. refl)))
     known
 
-sized_reply_stays : (size : ℕ) (body more : List ℕ) → (parsed_sized_reply size body ≡ Partial → ⊥) → parsed_sized_reply size (body ++ more)
-    ≡ parsed_sized_reply size body
-sized_reply_stays size body more known =
-    either (eqb size 0) _ _ _ _ (λ none here. refl) (λ some. either (ltb reply_limit size) _ _ _ _ (λ long here. refl)
+sized_reply_stays : (pr : Profile) (size : ℕ) (body more : List ℕ) → (parsed_sized_reply pr size body ≡ Partial → ⊥) → parsed_sized_reply pr size (body ++ more)
+    ≡ parsed_sized_reply pr size body
+sized_reply_stays pr size body more known =
+    either (eqb size 0) _ _ _ _ (λ none here. refl) (λ some. either (ltb (reply_limit pr) size) _ _ _ _ (λ long here. refl)
     (λ fits. reply_body_stays size body more)) known
 
-short_is_partial : (b : List ℕ) → length b < 4 → parsed_reply b ≡ Partial
+short_is_partial : (pr : Profile) (b : List ℕ) → length b < 4 → parsed_reply pr b ≡ Partial
 unfolding parsed_reply
-short_is_partial b short = let here : ltb (length b) 4 ≡ true = lt-ltb _ _ short in rw here refl
+short_is_partial pr b short = let here : ltb (length b) 4 ≡ true = lt-ltb _ _ short in rw here refl
 
-pub reply_stays : (b more : List ℕ) → (parsed_reply b ≡ Partial → ⊥) → parsed_reply (b ++ more) ≡ parsed_reply b
-reply_stays b more known =
+pub reply_stays : (pr : Profile) (b more : List ℕ) → (parsed_reply pr b ≡ Partial → ⊥) → parsed_reply pr (b ++ more) ≡ parsed_reply pr b
+reply_stays pr b more known =
     elim (cases_lt (length b) 4) [
-      | inl short ↦ absurd (known (short_is_partial b short))
+      | inl short ↦ absurd (known (short_is_partial pr b short))
       | inr four ↦ (
-          parsed_reply_is (b ++ more) (omega (arith, length-append b more))
-          ∙ ap (λ (n : ℕ). parsed_sized_reply n (drop 4 (b ++ more))) (big_from-append 4 b more four)
-          ∙ ap (λ (xs : List ℕ). parsed_sized_reply (big_number 4 b) xs) (drop-append-le 4 b more four)
-          ∙ sized_reply_stays (big_number 4 b) (drop 4 b) more (λ e. known (parsed_reply_is b four ∙ e))
-          ∙ sym (parsed_reply_is b four))
+          parsed_reply_is pr (b ++ more) (omega (arith, length-append b more))
+          ∙ ap (λ (n : ℕ). parsed_sized_reply pr n (drop 4 (b ++ more))) (big_from-append 4 b more four)
+          ∙ ap (λ (xs : List ℕ). parsed_sized_reply pr (big_number 4 b) xs) (drop-append-le 4 b more four)
+          ∙ sized_reply_stays pr (big_number 4 b) (drop 4 b) more (λ e. known (parsed_reply_is pr b four ∙ e))
+          ∙ sym (parsed_reply_is pr b four))
     ]

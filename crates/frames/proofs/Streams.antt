@@ -3,6 +3,7 @@ use Rattle.std.proofs.Common.{◌≡◌, ℕ, ◌+◌, ◌-◌, ◌==◌, ◌||�
 use Rattle.std.proofs.lemmas.List.{append-nil, take-append-le, drop-append-le, length-append, length-drop}
 use Rattle.std.proofs.Math.ListN.{get_or-append}
 use Rattle.std.proofs.lemmas.Bool.{ltb-false, le-ltb, lt-ltb, cases_lt}
+use Rattle.scsi_cdb.specs.declared.profile.Profile.{Profile}
 use Rattle.frames.specs.declared.fault.FrameFault.{FrameFault}
 use Rattle.frames.specs.declared.fault.FrameFault.TheVariants.{BadFrame, TooLong}
 use Rattle.byteorder.specs.Endian.{big_number}
@@ -12,49 +13,49 @@ use Rattle.frames.specs.Frames.{FrameValue, Login, Logout, ParsedFrameValue, Par
 use Rattle.frames.specs.Stream.{Stop, Waiting, Broken, Reads, partial, faulty, frame, Feeds}
 
 -- from frames read so far and the rest to all
-pub all_read : (l l' : Bool) (b rest : List ℕ) (front : List FrameValue) (stop : Stop)
-    → ((others : List FrameValue) (s : Stop) → Reads l' rest others s → Reads l b (front ++ others) s) → Reads l' rest [] stop → Reads l b front stop
-all_read l l' b rest front stop so_far here =
-    subst (λ (fs : List FrameValue). Reads l b fs stop) (append-nil front) (so_far [] stop here)
+pub all_read : (pr : Profile) (l l' : Bool) (b rest : List ℕ) (front : List FrameValue) (stop : Stop)
+    → ((others : List FrameValue) (s : Stop) → Reads pr l' rest others s → Reads pr l b (front ++ others) s) → Reads pr l' rest [] stop → Reads pr l b front stop
+all_read pr l l' b rest front stop so_far here =
+    subst (λ (fs : List FrameValue). Reads pr l b fs stop) (append-nil front) (so_far [] stop here)
 
 -- one frame more
-pub one_more : (l l' : Bool) (b rest : List ℕ) (front front' : List FrameValue) (x : FrameValue) (n : ℕ)
-    → ((others : List FrameValue) (s : Stop) → Reads l' rest others s → Reads l b (front ++ others) s)
-    → parsed_frame l' rest ≡ Complete x n → front' ≡ front ++ x ∷ []
-    → (others : List FrameValue) (s : Stop) → Reads true (drop n rest) others s → Reads l b (front' ++ others) s
-one_more l l' b rest front front' x n so_far e grown others s more =
+pub one_more : (pr : Profile) (l l' : Bool) (b rest : List ℕ) (front front' : List FrameValue) (x : FrameValue) (n : ℕ)
+    → ((others : List FrameValue) (s : Stop) → Reads pr l' rest others s → Reads pr l b (front ++ others) s)
+    → parsed_frame pr l' rest ≡ Complete x n → front' ≡ front ++ x ∷ []
+    → (others : List FrameValue) (s : Stop) → Reads pr true (drop n rest) others s → Reads pr l b (front' ++ others) s
+one_more pr l l' b rest front front' x n so_far e grown others s more =
     rw grown (rw append_assoc (so_far (x ∷ others) s (frame l' rest x n others s e more)))
 
 -- ---- one reading
 
-at_partial : (l : Bool) (b : List ℕ) (gs : List FrameValue) (t : Stop) → Reads l b gs t → parsed_frame l b ≡ Partial → (gs ≡ []) × (t ≡ Waiting l b)
-at_partial _ _ _ _ (partial l b e) d = (refl, refl)
-at_partial _ _ _ _ (faulty l b f e) d = absurd cc
-at_partial _ _ _ _ (frame l b s n others stop e more) d = absurd cc
+at_partial : (pr : Profile) (l : Bool) (b : List ℕ) (gs : List FrameValue) (t : Stop) → Reads pr l b gs t → parsed_frame pr l b ≡ Partial → (gs ≡ []) × (t ≡ Waiting l b)
+at_partial pr _ _ _ _ (partial l b e) d = (refl, refl)
+at_partial pr _ _ _ _ (faulty l b f e) d = absurd cc
+at_partial pr _ _ _ _ (frame l b s n others stop e more) d = absurd cc
 
-at_faulty : (l : Bool) (b : List ℕ) (gs : List FrameValue) (t : Stop) (f : FrameFault) → Reads l b gs t → parsed_frame l b ≡ Invalid f → (gs ≡ []) × (t ≡ Broken f)
-at_faulty _ _ _ _ f (partial l b e) d = absurd cc
-at_faulty _ _ _ _ f (faulty l b g e) d = (refl, cc)
-at_faulty _ _ _ _ f (frame l b s n others stop e more) d = absurd cc
+at_faulty : (pr : Profile) (l : Bool) (b : List ℕ) (gs : List FrameValue) (t : Stop) (f : FrameFault) → Reads pr l b gs t → parsed_frame pr l b ≡ Invalid f → (gs ≡ []) × (t ≡ Broken f)
+at_faulty pr _ _ _ _ f (partial l b e) d = absurd cc
+at_faulty pr _ _ _ _ f (faulty l b g e) d = (refl, cc)
+at_faulty pr _ _ _ _ f (frame l b s n others stop e more) d = absurd cc
 
 same_whole : (x y : FrameValue) (n m : ℕ) → Complete x n ≡ Complete y m → (x ≡ y) × (n ≡ m)
 same_whole x y n m e = (cc, cc)
 
-at_whole : (l : Bool) (b : List ℕ) (gs : List FrameValue) (t : Stop) (s : FrameValue) (n : ℕ) → Reads l b gs t → parsed_frame l b ≡ Complete s n
-    → (others : List FrameValue) × (gs ≡ s ∷ others) × Reads true (drop n b) others t
-at_whole _ _ _ _ s n (partial l b e) d = absurd cc
-at_whole _ _ _ _ s n (faulty l b g e) d = absurd cc
-at_whole _ _ _ _ s n (frame l b x m others stop e more) d =
+at_whole : (pr : Profile) (l : Bool) (b : List ℕ) (gs : List FrameValue) (t : Stop) (s : FrameValue) (n : ℕ) → Reads pr l b gs t → parsed_frame pr l b ≡ Complete s n
+    → (others : List FrameValue) × (gs ≡ s ∷ others) × Reads pr true (drop n b) others t
+at_whole pr _ _ _ _ s n (partial l b e) d = absurd cc
+at_whole pr _ _ _ _ s n (faulty l b g e) d = absurd cc
+at_whole pr _ _ _ _ s n (frame l b x m others stop e more) d =
     let same = same_whole x s m n (sym e ∙ d) in
     (others, ap (λ (y : FrameValue). y ∷ others) same.0, rw (← same.1) more)
 
 -- the frames of a stream are these and no others
-pub one_reading : (l : Bool) (b : List ℕ) (fs : List FrameValue) (s : Stop) → Reads l b fs s → (gs : List FrameValue) (t : Stop) → Reads l b gs t → (fs ≡ gs) × (s ≡ t)
-one_reading _ _ _ _ (partial l b e) gs t r = let h = at_partial l b gs t r e in (sym h.0, sym h.1)
-one_reading _ _ _ _ (faulty l b f e) gs t r = let h = at_faulty l b gs t f r e in (sym h.0, sym h.1)
-one_reading _ _ _ _ (frame l b s n others stop e more) gs t r =
-    let h = at_whole l b gs t s n r e in
-    let k = one_reading true (drop n b) others stop more h.0 t h.2 in
+pub one_reading : (pr : Profile) (l : Bool) (b : List ℕ) (fs : List FrameValue) (s : Stop) → Reads pr l b fs s → (gs : List FrameValue) (t : Stop) → Reads pr l b gs t → (fs ≡ gs) × (s ≡ t)
+one_reading pr _ _ _ _ (partial l b e) gs t r = let h = at_partial pr l b gs t r e in (sym h.0, sym h.1)
+one_reading pr _ _ _ _ (faulty l b f e) gs t r = let h = at_faulty pr l b gs t f r e in (sym h.0, sym h.1)
+one_reading pr _ _ _ _ (frame l b s n others stop e more) gs t r =
+    let h = at_whole pr l b gs t s n r e in
+    let k = one_reading pr true (drop n b) others stop more h.0 t h.2 in
     (ap (λ (xs : List FrameValue). s ∷ xs) k.0 ∙ sym h.1, k.1)
 
 -- ---- pieces: what more than a part of a frame shows stays, whatever follows
@@ -179,32 +180,32 @@ measured_stays true long f f' h known = refl
 measured_stays false true f f' h known = refl
 measured_stays false false f f' h known = h known
 
-parsed_sized_stays : (l : Bool) (size : ℕ) (body more : List ℕ) → (parsed_sized l size body ≡ Partial → ⊥) → parsed_sized l size (body ++ more) ≡ parsed_sized l size body
+parsed_sized_stays : (pr : Profile) (l : Bool) (size : ℕ) (body more : List ℕ) → (parsed_sized pr l size body ≡ Partial → ⊥) → parsed_sized pr l size (body ++ more) ≡ parsed_sized pr l size body
 unfolding measured
-parsed_sized_stays l size body more known = measured_stays _ _ _ _ (body_stays l size body more) known
+parsed_sized_stays pr l size body more known = measured_stays _ _ _ _ (body_stays l size body more) known
 
-pub parsed_is : (l : Bool) (b : List ℕ) → 4 ≤ length b → parsed_frame l b ≡ parsed_sized l (big_number 4 b) (drop 4 b)
+pub parsed_is : (pr : Profile) (l : Bool) (b : List ℕ) → 4 ≤ length b → parsed_frame pr l b ≡ parsed_sized pr l (big_number 4 b) (drop 4 b)
 unfolding parsed_frame
-parsed_is l b four = let here : ltb (length b) 4 ≡ false = le-ltb _ _ four in rw here refl
+parsed_is pr l b four = let here : ltb (length b) 4 ≡ false = le-ltb _ _ four in rw here refl
 
-short_is : (l : Bool) (b : List ℕ) → length b < 4 → parsed_frame l b ≡ Partial
+short_is : (pr : Profile) (l : Bool) (b : List ℕ) → length b < 4 → parsed_frame pr l b ≡ Partial
 unfolding parsed_frame
-short_is l b short = let here : ltb (length b) 4 ≡ true = lt-ltb _ _ short in rw here refl
+short_is pr l b short = let here : ltb (length b) 4 ≡ true = lt-ltb _ _ short in rw here refl
 
-complete_stays : (l : Bool) (b more : List ℕ) → 4 ≤ length b → (parsed_frame l b ≡ Partial → ⊥) → parsed_frame l (b ++ more) ≡ parsed_frame l b
-complete_stays l b more four known =
-    parsed_is l (b ++ more) (omega (arith, length-append b more))
-    ∙ ap (λ (n : ℕ). parsed_sized l n (drop 4 (b ++ more))) (big_from-append 4 b more four)
-    ∙ ap (λ (xs : List ℕ). parsed_sized l (big_number 4 b) xs) (drop-append-le 4 b more four)
-    ∙ parsed_sized_stays l (big_number 4 b) (drop 4 b) more (λ e. known (parsed_is l b four ∙ e))
-    ∙ sym (parsed_is l b four)
+complete_stays : (pr : Profile) (l : Bool) (b more : List ℕ) → 4 ≤ length b → (parsed_frame pr l b ≡ Partial → ⊥) → parsed_frame pr l (b ++ more) ≡ parsed_frame pr l b
+complete_stays pr l b more four known =
+    parsed_is pr l (b ++ more) (omega (arith, length-append b more))
+    ∙ ap (λ (n : ℕ). parsed_sized pr l n (drop 4 (b ++ more))) (big_from-append 4 b more four)
+    ∙ ap (λ (xs : List ℕ). parsed_sized pr l (big_number 4 b) xs) (drop-append-le 4 b more four)
+    ∙ parsed_sized_stays pr l (big_number 4 b) (drop 4 b) more (λ e. known (parsed_is pr l b four ∙ e))
+    ∙ sym (parsed_is pr l b four)
 
 -- a front that is more than a part of a frame stays, whatever follows
-pub stable : (l : Bool) (b more : List ℕ) (x : ParsedFrameValue) → parsed_frame l b ≡ x → (x ≡ Partial → ⊥) → parsed_frame l (b ++ more) ≡ x
-stable l b more x e known =
+pub stable : (pr : Profile) (l : Bool) (b more : List ℕ) (x : ParsedFrameValue) → parsed_frame pr l b ≡ x → (x ≡ Partial → ⊥) → parsed_frame pr l (b ++ more) ≡ x
+stable pr l b more x e known =
     elim (cases_lt (length b) 4) [
-      | inl short ↦ absurd (known (sym e ∙ short_is l b short))
-      | inr four ↦ complete_stays l b more four (λ p. known (sym e ∙ p)) ∙ e
+      | inl short ↦ absurd (known (sym e ∙ short_is pr l b short))
+      | inr four ↦ complete_stays pr l b more four (λ p. known (sym e ∙ p)) ∙ e
     ]
 
 -- ---- a frame is some of the bytes
@@ -287,31 +288,31 @@ measured_within true long f s n k h e = absurd cc
 measured_within false true f s n k h e = absurd cc
 measured_within false false f s n k h e = h e
 
-parsed_sized_within : (l : Bool) (size : ℕ) (body : List ℕ) (s : FrameValue) (n : ℕ) → parsed_sized l size body ≡ Complete s n → n ≤ 4 + length body
+parsed_sized_within : (pr : Profile) (l : Bool) (size : ℕ) (body : List ℕ) (s : FrameValue) (n : ℕ) → parsed_sized pr l size body ≡ Complete s n → n ≤ 4 + length body
 unfolding measured
-parsed_sized_within l size body s n e = measured_within _ _ _ s n (4 + length body) (body_within l size body s n) e
+parsed_sized_within pr l size body s n e = measured_within _ _ _ s n (4 + length body) (body_within l size body s n) e
 
-pub frame_within : (l : Bool) (b : List ℕ) (s : FrameValue) (n : ℕ) → parsed_frame l b ≡ Complete s n → n ≤ length b
-frame_within l b s n e =
+pub frame_within : (pr : Profile) (l : Bool) (b : List ℕ) (s : FrameValue) (n : ℕ) → parsed_frame pr l b ≡ Complete s n → n ≤ length b
+frame_within pr l b s n e =
     elim (cases_lt (length b) 4) [
-      | inl short ↦ (let clash : Partial ≡ Complete s n = sym (short_is l b short) ∙ e in absurd cc)
+      | inl short ↦ (let clash : Partial ≡ Complete s n = sym (short_is pr l b short) ∙ e in absurd cc)
       | inr four ↦ (
-          let bound = parsed_sized_within l (big_number 4 b) (drop 4 b) s n (sym (parsed_is l b four) ∙ e) in
+          let bound = parsed_sized_within pr l (big_number 4 b) (drop 4 b) s n (sym (parsed_is pr l b four) ∙ e) in
           omega (arith, bound, length-drop 4 b))
     ]
 
 -- what was read of a front of a stream is read of the whole, and then the rest
-joined : (l : Bool) (b : List ℕ) (fs : List FrameValue) (s : Stop) → Reads l b fs s → (more : List ℕ) (gs : List FrameValue) (t : Stop) → Feeds s more gs t → Reads l (b ++ more) (fs ++ gs) t
-joined _ _ _ _ (partial l b e) more gs t r = r
-joined _ _ _ _ (faulty l b f e) more gs t r = rw (r.0, r.1) (faulty l (b ++ more) f (stable l b more (Invalid f) e (λ h. absurd cc)))
-joined _ _ _ _ (frame l b s n others stop e rest) more gs t r =
-    let within : n ≤ length b = frame_within l b s n e in
-    frame l (b ++ more) s n (others ++ gs) t (stable l b more (Complete s n) e (λ h. absurd cc))
-    (rw (drop-append-le n b more within) (joined true (drop n b) others stop rest more gs t r))
+joined : (pr : Profile) (l : Bool) (b : List ℕ) (fs : List FrameValue) (s : Stop) → Reads pr l b fs s → (more : List ℕ) (gs : List FrameValue) (t : Stop) → Feeds pr s more gs t → Reads pr l (b ++ more) (fs ++ gs) t
+joined pr _ _ _ _ (partial l b e) more gs t r = r
+joined pr _ _ _ _ (faulty l b f e) more gs t r = rw (r.0, r.1) (faulty l (b ++ more) f (stable pr l b more (Invalid f) e (λ h. absurd cc)))
+joined pr _ _ _ _ (frame l b s n others stop e rest) more gs t r =
+    let within : n ≤ length b = frame_within pr l b s n e in
+    frame l (b ++ more) s n (others ++ gs) t (stable pr l b more (Complete s n) e (λ h. absurd cc))
+    (rw (drop-append-le n b more within) (joined pr true (drop n b) others stop rest more gs t r))
 
 -- two pieces are fed as one
-pub pieces_join : (a : Stop) (p : List ℕ) (fs : List FrameValue) (s : Stop) (q : List ℕ) (gs : List FrameValue) (t : Stop) → Feeds a p fs s → Feeds s q gs t → Feeds a (p ++ q) (fs ++ gs) t
-pieces_join (Waiting l rest) p fs s q gs t x y = rw (← append_assoc rest p q) (joined l (rest ++ p) fs s x q gs t y)
-pieces_join (Broken f) p fs s q gs t x y =
-    let z : Feeds (Broken f) q gs t = rw x.1 at y in
+pub pieces_join : (pr : Profile) (a : Stop) (p : List ℕ) (fs : List FrameValue) (s : Stop) (q : List ℕ) (gs : List FrameValue) (t : Stop) → Feeds pr a p fs s → Feeds pr s q gs t → Feeds pr a (p ++ q) (fs ++ gs) t
+pieces_join pr (Waiting l rest) p fs s q gs t x y = rw (← append_assoc rest p q) (joined pr l (rest ++ p) fs s x q gs t y)
+pieces_join pr (Broken f) p fs s q gs t x y =
+    let z : Feeds pr (Broken f) q gs t = rw x.1 at y in
     (rw (x.0, z.0) refl, z.1)

@@ -3,6 +3,8 @@ use Rattle.std.proofs.Common.{◌≡◌, ℕ, ◌+◌, ◌-◌, ◌^◌, ◌≤�
 use Rattle.std.proofs.lemmas.Bool.{le-ltb, le-leb, ne_eqb}
 use Rattle.std.proofs.lemmas.List.{drop-drop}
 use Rattle.std.proofs.Math.Seq.{take-append_seam, drop-append_seam}
+use Rattle.scsi_cdb.specs.declared.profile.Profile.{Profile}
+use Rattle.scsi_cdb.specs.declared.profile.Profile.TheVariants.{Spec, Hosts}
 use Rattle.byteorder.specs.Endian.{big_bytes, big_number}
 use Rattle.byteorder.specs.Numbers.{big_number-reads_back, length-bytes_high_first}
 use Rattle.scsi_nexus.specs.declared.nexus.Nexus.{Nexus}
@@ -38,12 +40,12 @@ long_enough body rest =
       length-bytes_high_first 4 (length body),
     )
 
-parsed_frame_of_body : (l : Bool) (body rest : List ℕ) → length body < 2 ^ 32
-    → parsed_frame l ((big_bytes 4 (length body) ++ body) ++ rest) ≡ parsed_sized l (length body) (body ++ rest)
-parsed_frame_of_body l body rest h =
-    parsed_is l ((big_bytes 4 (length body) ++ body) ++ rest) (long_enough body rest)
-    ∙ ap (λ (n : ℕ). parsed_sized l n (drop 4 ((big_bytes 4 (length body) ++ body) ++ rest))) (length_read body rest h)
-    ∙ ap (λ (xs : List ℕ). parsed_sized l (length body) xs) (body_behind body rest)
+parsed_frame_of_body : (pr : Profile) (l : Bool) (body rest : List ℕ) → length body < 2 ^ 32
+    → parsed_frame pr l ((big_bytes 4 (length body) ++ body) ++ rest) ≡ parsed_sized pr l (length body) (body ++ rest)
+parsed_frame_of_body pr l body rest h =
+    parsed_is pr l ((big_bytes 4 (length body) ++ body) ++ rest) (long_enough body rest)
+    ∙ ap (λ (n : ℕ). parsed_sized pr l n (drop 4 ((big_bytes 4 (length body) ++ body) ++ rest))) (length_read body rest h)
+    ∙ ap (λ (xs : List ℕ). parsed_sized pr l (length body) xs) (body_behind body rest)
 
 login_named : (nexus : Nexus) → 1 ≤ nexus.port → nexus.port ≤ 4 → named_login nexus ≡ Complete (Login nexus) 15
 login_named nexus least most = grind arith
@@ -101,45 +103,64 @@ command_again lun size cdb bytes rest least most is =
     (omega (arith, length-append (cdb ++ bytes) rest, length-append cdb bytes))
     ∙ ap (λ (s : FrameValue). Complete s (4 + size)) (command_cut lun size cdb bytes rest is)
 
-sized_command_body : (size : ℕ) (fields : List ℕ) → 4 ≤ size → size ≤ frame_limit → parsed_sized true size (0x02 ∷ fields) ≡ parsed_command
+sized_command_body : (pr : Profile) (size : ℕ) (fields : List ℕ) → 4 ≤ size → size ≤ frame_limit pr → parsed_sized pr true size (0x02 ∷ fields) ≡ parsed_command
     size fields
 unfolding parsed_body
-sized_command_body size fields least most =
+sized_command_body pr size fields least most =
     let some : eqb size 0 ≡ false = ne_eqb _ _ (λ e. omega (arith, e)) in
-    let short : ltb frame_limit size ≡ false = le-ltb _ _ most in
+    let short : ltb (frame_limit pr) size ≡ false = le-ltb _ _ most in
     let four : leb 4 size ≡ true = le-leb _ _ least in
     rw (some, short, four) refl
 
 -- a whole body
-body_again : (f : FrameValue) (rest : List ℕ) → IsSendable f → HasWidth f
-    → parsed_sized (is_behind_login f) (length (frame_body f)) (frame_body f ++ rest) ≡ Complete f (4 + length (frame_body f))
+login_body_again : (pr : Profile) (nexus : Nexus) (rest : List ℕ) → nexus.sas < 2 ^ 64 → 1 ≤ nexus.port → nexus.port ≤ 4
+    → parsed_sized pr false 11 (frame_body (Login nexus) ++ rest) ≡ Complete (Login nexus) 15
 unfolding parsed_body
-body_again (Login nexus) rest can wide = login_again nexus rest wide can.0 can.1
-body_again (Command lun cdb bytes) rest can wide =
+login_body_again Spec nexus rest wide least most = login_again nexus rest wide least most
+login_body_again Hosts nexus rest wide least most = login_again nexus rest wide least most
+
+reset_body_again : (pr : Profile) (lun : ℕ) (rest : List ℕ) → parsed_sized pr true 2 (frame_body (Reset lun) ++ rest) ≡ Complete (Reset lun) 6
+unfolding parsed_body
+reset_body_again Spec lun rest = refl
+reset_body_again Hosts lun rest = refl
+
+logout_body_again : (pr : Profile) (rest : List ℕ) → parsed_sized pr true 1 (frame_body Logout ++ rest) ≡ Complete Logout 5
+unfolding parsed_body
+logout_body_again Spec rest = refl
+logout_body_again Hosts rest = refl
+
+body_again : (pr : Profile) (f : FrameValue) (rest : List ℕ) → IsSendable pr f → HasWidth f
+    → parsed_sized pr (is_behind_login f) (length (frame_body f)) (frame_body f ++ rest) ≡ Complete f (4 + length (frame_body f))
+body_again pr (Login nexus) rest can wide = login_body_again pr nexus rest wide can.0 can.1
+body_again pr (Command lun cdb bytes) rest can wide =
     let size : length (frame_body (Command lun cdb bytes)) ≡ 3 + length cdb + length bytes = omega (arith, length-append cdb bytes) in
-    sized_command_body (length (frame_body (Command lun cdb bytes))) (lun ∷ length cdb ∷ ((cdb ++ bytes) ++ rest))
+    sized_command_body pr (length (frame_body (Command lun cdb bytes))) (lun ∷ length cdb ∷ ((cdb ++ bytes) ++ rest))
     (omega (arith, size, can.0)) (omega (arith, size, can.2))
     ∙ command_again lun (length (frame_body (Command lun cdb bytes))) cdb bytes rest can.0 can.1 size
-body_again (Reset lun) rest can wide = refl
-body_again Logout rest can wide = refl
+body_again pr (Reset lun) rest can wide = reset_body_again pr lun rest
+body_again pr Logout rest can wide = logout_body_again pr rest
 
-body_fits : (f : FrameValue) → IsSendable f → length (frame_body f) < 2 ^ 32
-body_fits (Login nexus) can = omega arith
-body_fits (Command lun cdb bytes) can = omega (arith, length-append cdb bytes, can.2)
-body_fits (Reset lun) can = omega arith
-body_fits Logout can = omega arith
+frame_bound : (pr : Profile) → frame_limit pr ≤ 1114112
+frame_bound Spec = omega arith
+frame_bound Hosts = omega arith
+
+body_fits : (pr : Profile) (f : FrameValue) → IsSendable pr f → length (frame_body f) < 2 ^ 32
+body_fits pr (Login nexus) can = omega arith
+body_fits pr (Command lun cdb bytes) can = omega (arith, length-append cdb bytes, can.2, frame_bound pr)
+body_fits pr (Reset lun) can = omega arith
+body_fits pr Logout can = omega arith
 
 pub length_whole : (body : List ℕ) → length (big_bytes 4 (length body) ++ body) ≡ 4 + length body
 length_whole body = omega (arith, length-append (big_bytes 4 (length body)) body, length-bytes_high_first 4 (length body))
 
-pub frame_again : (f : FrameValue) (rest : List ℕ) → IsSendable f → HasWidth f → parsed_frame (is_behind_login f) (frame_bytes f ++ rest) ≡
+pub frame_again : (pr : Profile) (f : FrameValue) (rest : List ℕ) → IsSendable pr f → HasWidth f → parsed_frame pr (is_behind_login f) (frame_bytes f ++ rest) ≡
     Complete f (length (frame_bytes f))
-frame_again f rest can wide =
-    parsed_frame_of_body (is_behind_login f) (frame_body f) rest (body_fits f can) ∙ body_again f rest can wide
+frame_again pr f rest can wide =
+    parsed_frame_of_body pr (is_behind_login f) (frame_body f) rest (body_fits pr f can) ∙ body_again pr f rest can wide
     ∙ ap (λ (n : ℕ). Complete f n) (sym (length_whole (frame_body f)))
 
-pub sent_in_stream : (f : FrameValue) (rest : List ℕ) (others : List FrameValue) (stop : Stop) → IsSendable f → HasWidth f
-    → Reads true rest others stop → Reads (is_behind_login f) (frame_bytes f ++ rest) (f ∷ others) stop
-sent_in_stream f rest others stop can wide more =
-    frame (is_behind_login f) (frame_bytes f ++ rest) f (length (frame_bytes f)) others stop (frame_again f rest can wide)
+pub sent_in_stream : (pr : Profile) (f : FrameValue) (rest : List ℕ) (others : List FrameValue) (stop : Stop) → IsSendable pr f → HasWidth f
+    → Reads pr true rest others stop → Reads pr (is_behind_login f) (frame_bytes f ++ rest) (f ∷ others) stop
+sent_in_stream pr f rest others stop can wide more =
+    frame (is_behind_login f) (frame_bytes f ++ rest) f (length (frame_bytes f)) others stop (frame_again pr f rest can wide)
     (rw (drop-append_seam (frame_bytes f) rest) more)

@@ -1,6 +1,7 @@
 -- Frames: four bytes of length, then a body whose first byte is its kind (profile).
 use Rattle.std.specs.Prelude.{ℕ, ◌+◌, ◌-◌, ◌==◌, ◌&&◌, ◌||◌, nat_lt, nat_le, not, Bool, List, [], ◌∷◌, length, take, drop, slice_index, if◌then◌else◌}
 use Rattle.byteorder.specs.Endian.{big_number}
+use Rattle.scsi_cdb.specs.declared.profile.Profile.{Profile}
 use Rattle.scsi_nexus.specs.declared.nexus.Nexus.{Nexus}
 use Rattle.frames.specs.Limits.{frame_limit}
 use Rattle.frames.specs.declared.fault.FrameFault.{FrameFault}
@@ -58,12 +59,12 @@ parsed_body logged size (kind ∷ fields) =
     else if (kind == 0x04) && logged && (size == 1) then Complete Logout 5
     else Invalid BadFrame
 
-abbrev pub parsed_sized : (logged : Bool) → (size : ℕ) → (body : List ℕ) → ParsedFrameValue
-parsed_sized logged size body =
+abbrev pub parsed_sized : Profile → (logged : Bool) → (size : ℕ) → (body : List ℕ) → ParsedFrameValue
+parsed_sized profile logged size body =
     if size == 0 then Invalid BadFrame
-    else if nat_lt frame_limit size then Invalid TooLong
+    else if nat_lt (frame_limit profile) size then Invalid TooLong
     else parsed_body logged size body
 
-unfoldable pub parsed_frame : (logged : Bool) → (bytes : List ℕ) → ParsedFrameValue
-parsed_frame logged bytes =
-    if nat_lt (length bytes) 4 then Partial else parsed_sized logged (big_number 4 bytes) (drop 4 bytes)
+unfoldable pub parsed_frame : Profile → (logged : Bool) → (bytes : List ℕ) → ParsedFrameValue
+parsed_frame profile logged bytes =
+    if nat_lt (length bytes) 4 then Partial else parsed_sized profile logged (big_number 4 bytes) (drop 4 bytes)

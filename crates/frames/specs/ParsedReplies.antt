@@ -1,6 +1,7 @@
 -- What a stream of replies begins with, as a client reads it.
 use Rattle.std.specs.Prelude.{ℕ, ◌+◌, ◌-◌, ◌^◌, ◌<◌, ◌==◌, nat_lt, nat_le, List, [], ◌∷◌, length, take, drop, Option, None, Some, Result, Ok, Err, if◌then◌else◌}
 use Rattle.byteorder.specs.Endian.{big_number}
+use Rattle.scsi_cdb.specs.declared.profile.Profile.{Profile}
 use Rattle.scsi_sense.specs.declared.fault.SenseFault.{SenseFault}
 use Rattle.scsi_sense.specs.declared.sense.Sense.{Sense}
 use Rattle.scsi_sense.specs.declared.status.Status.{Status}
@@ -92,15 +93,15 @@ parsed_reply_body size (kind ∷ fields) =
     else Invalid UnknownKind
 
 -- of the whole, by its length
-abbrev pub parsed_sized_reply : (size : ℕ) → (body : List ℕ) → ParsedReplyValue
-parsed_sized_reply size body =
+abbrev pub parsed_sized_reply : Profile → (size : ℕ) → (body : List ℕ) → ParsedReplyValue
+parsed_sized_reply profile size body =
     if size == 0 then Invalid NoBody
-    else if nat_lt reply_limit size then Invalid TooLong
+    else if nat_lt (reply_limit profile) size then Invalid TooLong
     else parsed_reply_body size body
 
-unfoldable pub parsed_reply : (bytes : List ℕ) → ParsedReplyValue
-parsed_reply bytes =
-    if nat_lt (length bytes) 4 then Partial else parsed_sized_reply (big_number 4 bytes) (drop 4 bytes)
+unfoldable pub parsed_reply : Profile → (bytes : List ℕ) → ParsedReplyValue
+parsed_reply profile bytes =
+    if nat_lt (length bytes) 4 then Partial else parsed_sized_reply profile (big_number 4 bytes) (drop 4 bytes)
 
 -- sense data that the format can carry
 abbrev pub IsCarried : Option Sense → Type 0

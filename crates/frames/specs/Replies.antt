@@ -1,11 +1,12 @@
 -- Reply frames: four bytes of length, then a body whose first byte is its kind (profile).
 use Rattle.std.specs.Prelude.{ℕ, ◌≤◌, List, [], ◌∷◌, ◌++◌, length, Option, None, Some}
 use Rattle.byteorder.specs.Endian.{big_bytes}
+use Rattle.scsi_cdb.specs.declared.profile.Profile.{Profile}
 use Rattle.scsi_sense.specs.declared.sense.Sense.{Sense}
 use Rattle.scsi_sense.specs.declared.status.Status.{Status}
 use Rattle.scsi_sense.specs.Status.{status_code}
 use Rattle.scsi_sense.specs.FixedSense.{fixed_sense}
-use Rattle.tape_medium.specs.Limits.{block_limit}
+use Rattle.frames.specs.Limits.{reply_data_limit}
 use Rattle.frames.specs.declared.reply_frame.LoginAnswer.{LoginAnswer}
 use Rattle.frames.specs.declared.reply_frame.LoginAnswer.TheVariants.{Accepted, AlreadyConnected}
 
@@ -36,6 +37,6 @@ abbrev pub reply_bytes : ReplyFrameValue → List ℕ
 reply_bytes reply = big_bytes 4 (length (reply_body reply)) ++ reply_body reply
 
 -- a command's data are those of a block at most
-abbrev pub IsShort : ReplyFrameValue → Type 0
-IsShort (CommandReply status sense number payload) = length payload ≤ block_limit
-IsShort reply = Unit {0}
+abbrev pub IsShort : Profile → ReplyFrameValue → Type 0
+IsShort profile (CommandReply status sense number payload) = length payload ≤ reply_data_limit profile
+IsShort profile reply = Unit {0}

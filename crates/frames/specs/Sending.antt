@@ -1,6 +1,7 @@
 -- Frames as a client writes them: four bytes of length, then a body whose first byte is its kind (profile).
 use Rattle.std.specs.Prelude.{ℕ, ◌+◌, ◌^◌, ◌≤◌, ◌<◌, Bool, true, false, List, [], ◌∷◌, ◌++◌, length}
 use Rattle.byteorder.specs.Endian.{big_bytes}
+use Rattle.scsi_cdb.specs.declared.profile.Profile.{Profile}
 use Rattle.frames.specs.Limits.{frame_limit}
 use Rattle.frames.specs.Frames.{FrameValue, Login, Command, Reset, Logout}
 
@@ -16,10 +17,10 @@ abbrev pub frame_bytes : FrameValue → List ℕ
 frame_bytes s = big_bytes 4 (length (frame_body s)) ++ frame_body s
 
 -- what a client may send: a target port of 1 to 4; a CDB of 1 to 16 bytes, with data that the longest body has room for
-abbrev pub IsSendable : FrameValue → Type 0
-IsSendable (Login nexus) = (1 ≤ nexus.port) × (nexus.port ≤ 4)
-IsSendable (Command lun cdb bytes) = (1 ≤ length cdb) × (length cdb ≤ 16) × (3 + length cdb + length bytes ≤ frame_limit)
-IsSendable s = Unit {0}
+abbrev pub IsSendable : Profile → FrameValue → Type 0
+IsSendable profile (Login nexus) = (1 ≤ nexus.port) × (nexus.port ≤ 4)
+IsSendable profile (Command lun cdb bytes) = (1 ≤ length cdb) × (length cdb ≤ 16) × (3 + length cdb + length bytes ≤ frame_limit profile)
+IsSendable profile s = Unit {0}
 
 -- a SAS address has eight bytes
 abbrev pub HasWidth : FrameValue → Type 0

@@ -1,11 +1,13 @@
-ghost use Rattle.std.specs.Prelude.{◌≡◌};
+ghost use Rattle.std.specs.Prelude.{◌≡◌, ◌≤◌};
 ghost use Rattle.std.specs.Io.KnownBytes.{Keeps, IsAtEnd};
 ghost use Rattle.read_buffer.specs.Reading.{Added};
+ghost use Rattle.frames.specs.Limits.{reply_size_limit};
 ghost use Rattle.frames.specs.ParsedReplies.{Partial, parsed_reply};
 
-use crate::layout::FrameBuffer;
 use crate::reply_frame::ParsedReply;
 use crate::reply_parse::parse_reply;
+use read_buffer::ReadBuffer;
+use scsi_cdb::Profile;
 use std::io::Read;
 
 /// What came of waiting for a reply.
@@ -19,22 +21,25 @@ pub enum ReplyWait {
     Failed,
 }
 
-/// Reads until what is pending begins with more than a part of a reply, and takes each read off `turns`. Where it does already,
-/// nothing is read. What was read is pending in any case, and a client may wait again.
-pub fn await_reply<R: Read>(
-    read_buffer: &mut FrameBuffer,
+/// Reads until what is pending begins with more than a part of a reply of a library of a profile, and takes each read off `turns`. Where it
+/// does already, nothing is read. What was read is pending in any case, and a client may wait again. The buffer has room for the longest
+/// reply.
+pub fn await_reply<const ROOM: usize, R: Read>(
+    profile: Profile,
+    read_buffer: &mut ReadBuffer<ROOM>,
     reader: &mut R,
     turns: &mut u64,
 ) -> ReplyWait
+    requires { reply_size_limit profile ≤ ROOM }
     ensures read { Added read_buffer.old read_buffer.new (R.remaining reader.old) (R.remaining reader.new) }
-    ensures arrived { result ≡ ReplyWait.Arrived → parsed_reply read_buffer.new ≡ Partial → ⊥ }
-    ensures ended { result ≡ ReplyWait.Ended → (parsed_reply read_buffer.new ≡ Partial) × IsAtEnd (R.remaining reader.new) }
-    ensures failed { result ≡ ReplyWait.Failed → parsed_reply read_buffer.new ≡ Partial }
-    ensures ready { (parsed_reply read_buffer.old ≡ Partial → ⊥)
+    ensures arrived { result ≡ ReplyWait.Arrived → parsed_reply profile read_buffer.new ≡ Partial → ⊥ }
+    ensures ended { result ≡ ReplyWait.Ended → (parsed_reply profile read_buffer.new ≡ Partial) × IsAtEnd (R.remaining reader.new) }
+    ensures failed { result ≡ ReplyWait.Failed → parsed_reply profile read_buffer.new ≡ Partial }
+    ensures ready { (parsed_reply profile read_buffer.old ≡ Partial → ⊥)
         → (result ≡ ReplyWait.Arrived) × (read_buffer.new ≡ read_buffer.old) × Keeps (R.remaining reader.old) (R.remaining reader.new) }
 {
     'reads: loop {
-        match parse_reply(read_buffer.pending()) {
+        match parse_reply(profile, read_buffer.pending()) {
             ParsedReply::Partial => {}
             _ => return ReplyWait::Arrived,
         }

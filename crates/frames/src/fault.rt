@@ -9,7 +9,7 @@ pub enum FrameFault {
     /// target port other than 1 to 4.
     #[error("bad frame")]
     BadFrame,
-    /// A body of more than `MAX_BODY` bytes.
+    /// A body of more than `most_body` bytes.
     #[error("frame too long")]
     TooLong,
 }

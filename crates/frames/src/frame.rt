@@ -4,6 +4,7 @@ ghost use Rattle.frames.specs.Views.{frame_value};
 
 use crate::fault::FrameFault;
 use crate::layout::*;
+use scsi_cdb::Profile;
 use scsi_nexus::Nexus;
 
 /// What a client sends, where it lies among the bytes of the stream.
@@ -28,17 +29,17 @@ pub enum FrameRef<'a> {
 }
 
 impl FrameRef<'_> {
-    /// Whether a client may send it: a target port of 1 to 4; a CDB of 1 to 16 bytes, with data that a body of
-    /// `MAX_BODY` bytes has room for.
-    pub fn is_sendable(&self) -> bool
-        ensures { IsTrue result ↔ IsSendable (frame_value self.now) }
+    /// Whether a client may send it in a session of a library of a profile: a target port of 1 to 4; a CDB of 1 to 16 bytes, with data that
+    /// the longest body has room for.
+    pub fn is_sendable(&self, profile: Profile) -> bool
+        ensures { IsTrue result ↔ IsSendable profile (frame_value self.now) }
     {
         match self {
             FrameRef::Login { nexus } => nexus.has_target_port(),
             FrameRef::Command { cdb, bytes, .. } => {
                 !cdb.is_empty()
                     && cdb.len() <= MAX_CDB
-                    && bytes.len() <= MAX_BODY - 1 - COMMAND_FIELDS - cdb.len()
+                    && bytes.len() <= most_body(profile) - 1 - COMMAND_FIELDS - cdb.len()
             }
             FrameRef::Reset { .. } => true,
             FrameRef::Logout => true,

@@ -1,14 +1,30 @@
 //! The bytes of a frame (profile).
 
-use read_buffer::ReadBuffer;
+ghost use Rattle.std.specs.Prelude.{◌≡◌, ◌≤◌};
+ghost use Rattle.frames.specs.Limits.{frame_limit, longest_frame, command_data_limit, reply_data_limit, reply_limit, longest_reply};
+
+use scsi_cdb::Profile;
 use scsi_sense::SENSE_LENGTH;
-use tape_medium::MAX_BLOCK;
 
 /// How many bytes tell the length of the body that follows.
 pub const LENGTH_FIELD: usize = 4;
 
-/// The most bytes of a body.
-pub const MAX_BODY: usize = 131_072;
+/// The most bytes of a body, in a session of a library of the default profile.
+const MAX_BODY: usize = 131_072;
+
+/// The same in the hosts' profile.
+const HOSTS_MAX_BODY: usize = 1_114_112;
+
+/// The most bytes of a body, in a session of a library of a profile.
+pub fn most_body(profile: Profile) -> usize
+    ensures value { result ≡ frame_limit profile }
+    ensures within { result ≤ longest_frame }
+{
+    match profile {
+        Profile::Spec => MAX_BODY,
+        Profile::Hosts => HOSTS_MAX_BODY,
+    }
+}
 
 /// The kinds of frames: the first byte of a body.
 pub(crate) const LOGIN: u8 = 0x01;
@@ -32,7 +48,11 @@ pub(crate) const COMMAND_FIELDS: usize = 2;
 pub(crate) const MAX_CDB: usize = 16;
 
 /// The most data of a COMMAND with any CDB: what a body has room for behind its kind, its fields and the longest CDB.
-pub const MAX_COMMAND_DATA: usize = MAX_BODY - 1 - COMMAND_FIELDS - MAX_CDB;
+pub fn most_command_data(profile: Profile) -> u32
+    ensures { result ≡ command_data_limit profile }
+{
+    (most_body(profile) - 1 - COMMAND_FIELDS - MAX_CDB) as u32
+}
 
 /// The kinds of reply frames.
 pub(crate) const LOGIN_REPLY: u8 = 0x81;
@@ -59,12 +79,27 @@ pub(crate) const BEFORE_SENSE: usize = 3;
 /// How many bytes the number of a record has.
 pub(crate) const NUMBER_FIELD: usize = 8;
 
-/// The most bytes of a reply's body: kind, status, the length of the sense data, sense data, the record's number, and
-/// the data of an answer, a block's at most.
-pub const MAX_REPLY: usize = BEFORE_SENSE + SENSE_LENGTH + NUMBER_FIELD + MAX_BLOCK as usize;
+/// The most data of an answer that a reply carries.
+pub fn most_reply_data(profile: Profile) -> usize
+    ensures { result ≡ reply_data_limit profile }
+{
+    match profile {
+        Profile::Spec => 65_536,
+        Profile::Hosts => 1_048_576,
+    }
+}
 
-/// Room for what was read of a stream: some twice the longest frame, so that a read can bring many frames at once.
+/// The most bytes of a reply's body: kind, status, the length of the sense data, sense data, the record's number, and
+/// the data of an answer.
+pub fn most_reply(profile: Profile) -> usize
+    ensures value { result ≡ reply_limit profile }
+    ensures within { result ≤ longest_reply }
+{
+    BEFORE_SENSE + SENSE_LENGTH + NUMBER_FIELD + most_reply_data(profile)
+}
+
+/// Room for what was read of a stream, some twice the longest frame of the default profile, so that a read can bring many frames at once.
 pub const FRAME_BUFFER: usize = 2 * MAX_BODY;
 
-/// The bytes of a stream of which no frame was made yet.
-pub type FrameBuffer = ReadBuffer<FRAME_BUFFER>;
+/// The same of the hosts' profile.
+pub const HOSTS_FRAME_BUFFER: usize = 2 * HOSTS_MAX_BODY;

@@ -22,7 +22,10 @@ pub use laws::{
     broken_rows, fault_rows, frame_rows, limit_rows, one_reading, partial_rows, pieces_join,
     reply_rows, stream_rows, taken_is_read,
 };
-pub use layout::{FRAME_BUFFER, FrameBuffer, LENGTH_FIELD, MAX_BODY, MAX_COMMAND_DATA, MAX_REPLY};
+pub use layout::{
+    FRAME_BUFFER, HOSTS_FRAME_BUFFER, LENGTH_FIELD, most_body, most_command_data, most_reply,
+    most_reply_data,
+};
 pub use parse::parse_frame;
 pub use reply_fault::ReplyFault;
 pub use reply_frame::{LoginAnswer, ParsedReply, ReplyFrame, write_reply};

@@ -1,12 +1,13 @@
 ghost use Rattle.std.specs.Prelude.{◌≡◌, ◌≤◌, ◌<◌, ◌+◌, length};
 ghost use Rattle.frames.specs.Frames.{parsed_login, parsed_command, parsed_reset, parsed_body, parsed_frame, Partial};
-ghost use Rattle.frames.specs.Limits.{frame_limit, frame_size_limit};
+ghost use Rattle.frames.specs.Limits.{longest_frame, frame_size_limit};
 ghost use Rattle.frames.specs.Views.{parsed_value, IsWithin};
 
 use crate::fault::FrameFault;
 use crate::frame::{FrameRef, ParsedFrame};
 use crate::layout::*;
 use byteorder::{BigEndian, ByteOrder};
+use scsi_cdb::Profile;
 use scsi_nexus::Nexus;
 
 /// A LOGIN of these bytes behind its kind.
@@ -30,7 +31,7 @@ fn login_of(fields: &[u8]) -> ParsedFrame<'_>
 /// A COMMAND whose body has `size` bytes, of these behind its kind.
 fn command_of(size: usize, fields: &[u8]) -> ParsedFrame<'_>
     requires least { 4 ≤ size }
-    requires most { size ≤ frame_limit }
+    requires most { size ≤ longest_frame }
     ensures parsed { parsed_value result ≡ parsed_command size fields.now }
     ensures within { IsWithin (5 + length fields.now) result }
     ensures partial { parsed_value result ≡ Partial → length fields.now + 1 < size }
@@ -71,7 +72,7 @@ fn reset_of(fields: &[u8]) -> ParsedFrame<'_>
 #[tactic(auto, unfolding(crate::specs::Frames::parsed_body))]
 fn body_of(logged_in: bool, size: usize, body: &[u8]) -> ParsedFrame<'_>
     requires least { 0 < size }
-    requires most { size ≤ frame_limit }
+    requires most { size ≤ longest_frame }
     ensures parsed { parsed_value result ≡ parsed_body logged_in size body.now }
     ensures within { IsWithin (4 + length body.now) result }
     ensures partial { parsed_value result ≡ Partial → length body.now < size }
@@ -91,13 +92,13 @@ fn body_of(logged_in: bool, size: usize, body: &[u8]) -> ParsedFrame<'_>
     }
 }
 
-/// What a stream begins with, after a LOGIN or before it. Nothing is copied, and a fault is told by the
-/// first byte that shows it.
+/// What a stream begins with, after a LOGIN or before it, in a session of a library of a profile. Nothing is copied, and a fault is told by
+/// the first byte that shows it.
 #[tactic(auto, unfolding(crate::specs::Frames::parsed_frame))]
-pub fn parse_frame(logged_in: bool, bytes: &[u8]) -> ParsedFrame<'_>
-    ensures parsed { parsed_value result ≡ parsed_frame logged_in bytes.now }
+pub fn parse_frame(profile: Profile, logged_in: bool, bytes: &[u8]) -> ParsedFrame<'_>
+    ensures parsed { parsed_value result ≡ parsed_frame profile logged_in bytes.now }
     ensures within { IsWithin (length bytes.now) result }
-    ensures partial { parsed_value result ≡ Partial → length bytes.now < frame_size_limit }
+    ensures partial { parsed_value result ≡ Partial → length bytes.now < frame_size_limit profile }
 {
     if bytes.len() < LENGTH_FIELD {
         return ParsedFrame::Partial;
@@ -106,7 +107,7 @@ pub fn parse_frame(logged_in: bool, bytes: &[u8]) -> ParsedFrame<'_>
     if size == 0 {
         return ParsedFrame::Invalid(FrameFault::BadFrame);
     }
-    if size > MAX_BODY {
+    if size > most_body(profile) {
         return ParsedFrame::Invalid(FrameFault::TooLong);
     }
     body_of(logged_in, size, &bytes[LENGTH_FIELD..])

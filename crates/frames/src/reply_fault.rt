@@ -7,7 +7,7 @@ pub enum ReplyFault {
     /// A body of no bytes.
     #[error("reply of no bytes")]
     NoBody,
-    /// A body of more than `MAX_REPLY` bytes.
+    /// A body of more than `most_reply` bytes.
     #[error("reply too long")]
     TooLong,
     /// A kind of reply that there isn't.

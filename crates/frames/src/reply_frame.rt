@@ -1,11 +1,11 @@
 ghost use Rattle.std.specs.Prelude.{◌≡◌, ◌≤◌, ◌<◌, ◌+◌, ◌++◌, length, vec_len, vec_capacity, OnOk, OnErr};
-ghost use Rattle.tape_medium.specs.Limits.{block_limit};
-ghost use Rattle.frames.specs.Limits.{reply_size_limit};
+ghost use Rattle.frames.specs.Limits.{reply_data_limit, reply_size_limit};
 ghost use Rattle.frames.specs.Replies.{IsShort, reply_bytes, sense_bytes, login_code, CommandReply};
 ghost use Rattle.frames.specs.Views.{reply_value};
 
 use crate::layout::*;
 use crate::reply_fault::ReplyFault;
+use scsi_cdb::Profile;
 use scsi_sense::{Sense, Status};
 use std::alloc::AllocError;
 
@@ -51,15 +51,19 @@ fn code_of(answer: LoginAnswer) -> u8
     }
 }
 
-/// Adds a reply frame: four bytes of length, then a body whose first byte is its kind. Room for all of it is
-/// made first; where memory is refused, nothing that counts was added. No reply has more bytes than
-/// `MAX_REPLY` behind its length, so none takes memory where there is room for as many.
-pub fn write_reply(out: &mut Vec<u8>, reply: &ReplyFrame<'_>) -> Result<(), AllocError>
-    requires { IsShort (reply_value reply.now) }
+/// Adds a reply frame in a session of a library of a profile: four bytes of length, then a body whose first byte is its kind. Room for all
+/// of it is made first; where memory is refused, nothing that counts was added. No reply has more bytes than `most_reply` behind its
+/// length, so none takes memory where there is room for as many.
+pub fn write_reply(
+    profile: Profile,
+    out: &mut Vec<u8>,
+    reply: &ReplyFrame<'_>,
+) -> Result<(), AllocError>
+    requires { IsShort profile (reply_value reply.now) }
     ensures added { OnOk result (out.new.items ≡ out.old.items ++ reply_bytes (reply_value reply.now)) }
-    ensures most { OnOk result (vec_len out.new ≤ vec_len out.old + reply_size_limit) }
+    ensures most { OnOk result (vec_len out.new ≤ vec_len out.old + reply_size_limit profile) }
     ensures capacity { vec_capacity out.old ≤ vec_capacity out.new }
-    ensures full { OnErr result (vec_capacity out.old < vec_len out.old + reply_size_limit) }
+    ensures full { OnErr result (vec_capacity out.old < vec_len out.old + reply_size_limit profile) }
 {
     match reply {
         ReplyFrame::Login(answer) => {
@@ -70,7 +74,7 @@ pub fn write_reply(out: &mut Vec<u8>, reply: &ReplyFrame<'_>) -> Result<(), Allo
             sense,
             number,
             bytes,
-        } => write_command_reply(out, *status, sense, *number, bytes),
+        } => write_command_reply(profile, out, *status, sense, *number, bytes),
         ReplyFrame::Reset(status) => {
             out.extend_from_slice(&[0, 0, 0, 2, RESET_REPLY, status.code()])
         }
@@ -80,17 +84,18 @@ pub fn write_reply(out: &mut Vec<u8>, reply: &ReplyFrame<'_>) -> Result<(), Allo
 
 /// Adds the reply to a COMMAND.
 fn write_command_reply(
+    profile: Profile,
     out: &mut Vec<u8>,
     status: Status,
     sense: &Option<Sense>,
     number: u64,
     bytes: &[u8],
 ) -> Result<(), AllocError>
-    requires { length bytes.now ≤ block_limit }
+    requires { length bytes.now ≤ reply_data_limit profile }
     ensures added { OnOk result (out.new.items ≡ out.old.items ++ reply_bytes (CommandReply status sense.now number bytes.now)) }
-    ensures most { OnOk result (vec_len out.new ≤ vec_len out.old + reply_size_limit) }
+    ensures most { OnOk result (vec_len out.new ≤ vec_len out.old + reply_size_limit profile) }
     ensures capacity { vec_capacity out.old ≤ vec_capacity out.new }
-    ensures full { OnErr result (vec_capacity out.old < vec_len out.old + reply_size_limit) }
+    ensures full { OnErr result (vec_capacity out.old < vec_len out.old + reply_size_limit profile) }
 {
     let size = COMMAND_REPLY_FIELDS + sense_length(sense) as usize + bytes.len();
     out.reserve(LENGTH_FIELD + size)?;

@@ -1,5 +1,5 @@
 ghost use Rattle.std.specs.Prelude.{◌≡◌, ◌≤◌, ◌<◌, ◌+◌, length};
-ghost use Rattle.frames.specs.Limits.{reply_limit, reply_size_limit};
+ghost use Rattle.frames.specs.Limits.{longest_reply, reply_size_limit};
 ghost use Rattle.frames.specs.ParsedReplies.{coded_status, parsed_login_reply, parsed_reset_reply, parsed_numbered, parsed_sense, parsed_command_reply, parsed_reply_body, parsed_reply, Partial};
 ghost use Rattle.frames.specs.Views.{parsed_reply_value, IsReplyWithin};
 
@@ -7,6 +7,7 @@ use crate::layout::*;
 use crate::reply_fault::ReplyFault;
 use crate::reply_frame::{LoginAnswer, ParsedReply, ReplyFrame};
 use byteorder::{BigEndian, ByteOrder};
+use scsi_cdb::Profile;
 use scsi_sense::{SENSE_LENGTH, Sense, Status};
 
 fn status_of(code: u8) -> Option<Status>
@@ -65,7 +66,7 @@ fn numbered_of(
 ) -> ParsedReply<'_>
     requires before { before ≤ 25 }
     requires least { 8 ≤ size }
-    requires most { size ≤ reply_limit }
+    requires most { size ≤ longest_reply }
     ensures parsed { parsed_reply_value result ≡ parsed_numbered status sense before size left.now }
     ensures within { IsReplyWithin (before + length left.now) result }
     ensures partial { parsed_reply_value result ≡ Partial → length left.now < size }
@@ -84,7 +85,7 @@ fn numbered_of(
 
 /// A COMMAND's reply whose body has `size` bytes, from its sense data on.
 fn sensed_of(status: Status, size: usize, left: &[u8]) -> ParsedReply<'_>
-    requires most { size ≤ reply_limit }
+    requires most { size ≤ longest_reply }
     ensures parsed { parsed_reply_value result ≡ parsed_sense status size left.now }
     ensures within { IsReplyWithin (7 + length left.now) result }
     ensures partial { parsed_reply_value result ≡ Partial → length left.now + 3 < size }
@@ -112,7 +113,7 @@ fn sensed_of(status: Status, size: usize, left: &[u8]) -> ParsedReply<'_>
 /// A COMMAND's reply whose body has `size` bytes, from its status on.
 fn command_reply_of(size: usize, fields: &[u8]) -> ParsedReply<'_>
     requires least { 11 ≤ size }
-    requires most { size ≤ reply_limit }
+    requires most { size ≤ longest_reply }
     ensures parsed { parsed_reply_value result ≡ parsed_command_reply size fields.now }
     ensures within { IsReplyWithin (5 + length fields.now) result }
     ensures partial { parsed_reply_value result ≡ Partial → length fields.now + 1 < size }
@@ -143,7 +144,7 @@ fn command_reply_of(size: usize, fields: &[u8]) -> ParsedReply<'_>
 #[tactic(auto, unfolding(crate::specs::ParsedReplies::parsed_reply_body))]
 fn reply_body_of(size: usize, body: &[u8]) -> ParsedReply<'_>
     requires least { 0 < size }
-    requires most { size ≤ reply_limit }
+    requires most { size ≤ longest_reply }
     ensures parsed { parsed_reply_value result ≡ parsed_reply_body size body.now }
     ensures within { IsReplyWithin (4 + length body.now) result }
     ensures partial { parsed_reply_value result ≡ Partial → length body.now < size }
@@ -163,13 +164,13 @@ fn reply_body_of(size: usize, body: &[u8]) -> ParsedReply<'_>
     }
 }
 
-/// What a stream of replies begins with, as a client reads it. Nothing is copied, and a fault is told by the first
+/// What a stream of replies begins with, as a client of a library of a profile reads it. Nothing is copied, and a fault is told by the first
 /// byte that shows it, of sense data once all 18 bytes are there.
 #[tactic(auto, unfolding(crate::specs::ParsedReplies::parsed_reply))]
-pub fn parse_reply(bytes: &[u8]) -> ParsedReply<'_>
-    ensures parsed { parsed_reply_value result ≡ parsed_reply bytes.now }
+pub fn parse_reply(profile: Profile, bytes: &[u8]) -> ParsedReply<'_>
+    ensures parsed { parsed_reply_value result ≡ parsed_reply profile bytes.now }
     ensures within { IsReplyWithin (length bytes.now) result }
-    ensures partial { parsed_reply_value result ≡ Partial → length bytes.now < reply_size_limit }
+    ensures partial { parsed_reply_value result ≡ Partial → length bytes.now < reply_size_limit profile }
 {
     if bytes.len() < LENGTH_FIELD {
         return ParsedReply::Partial;
@@ -178,7 +179,7 @@ pub fn parse_reply(bytes: &[u8]) -> ParsedReply<'_>
     if size == 0 {
         return ParsedReply::Invalid(ReplyFault::NoBody);
     }
-    if size > MAX_REPLY {
+    if size > most_reply(profile) {
         return ParsedReply::Invalid(ReplyFault::TooLong);
     }
     reply_body_of(size, &bytes[LENGTH_FIELD..])

@@ -1,7 +1,9 @@
 -- What is agreed stays in its ranges.
 use Rattle.std.proofs.Common.{◌≡◌, ℕ, ◌≤◌, ◌&&◌, leb, Bool, true, false, cond, inl, inr, ◌⊎◌, List, [], ◌∷◌, Option, Some, None, refl, sym, subst, min, max, arith}
 use Rattle.std.proofs.lemmas.Bool.{cases_lt, le-leb, lt-leb}
-use Rattle.iscsi_keys.specs.Limits.{segment_limit}
+use Rattle.scsi_cdb.specs.declared.profile.Profile.{Profile}
+use Rattle.scsi_cdb.specs.declared.profile.Profile.TheVariants.{Spec, Hosts}
+use Rattle.iscsi_keys.specs.Limits.{segment_limit, most_first_burst}
 use Rattle.iscsi_keys.specs.Keys.{range}
 use Rattle.iscsi_keys.specs.Numbers.{number_in}
 use Rattle.iscsi_keys.specs.Answers.{in_range, number_answer, answer_to}
@@ -70,9 +72,17 @@ burst_taken p n least h = record {
   short_wait = h.short_wait;
 }
 
-first_taken : (p : SessionParameters) (n : ℕ) → 512 ≤ n → AreInRange p → AreInRange
-    (with_first_burst p (answer.Number (min n (min 262144 p.max_burst_length))))
-first_taken p n least h = record {
+some_first : (profile : Profile) → 512 ≤ most_first_burst profile
+some_first Spec = omega arith
+some_first Hosts = omega arith
+
+long_first : (profile : Profile) → most_first_burst profile ≤ 262144
+long_first Spec = omega arith
+long_first Hosts = omega arith
+
+first_taken : (p : SessionParameters) (n most : ℕ) → 512 ≤ n → 512 ≤ most → most ≤ 262144 → AreInRange p → AreInRange
+    (with_first_burst p (answer.Number (min n (min most p.max_burst_length))))
+first_taken p n most least some long h = record {
   some_segment = h.some_segment;
   short_segment = h.short_segment;
   some_burst = h.some_burst;
@@ -128,9 +138,10 @@ key_stays t p key.MaxBurstLength value h =
     (number_in value) h h
     (λ n e least most. burst_taken p n least h)
 key_stays t p key.FirstBurstLength value h =
-    number_case (λ (a : KeyAnswer). AreInRange (with_first_burst p a)) (t.discovery && true) (λ n. min n (min 262144 p.max_burst_length))
-    (range 512 16777215 (min 262144 p.max_burst_length)) (number_in value) h h
-    (λ n e least most. first_taken p n least h)
+    number_case (λ (a : KeyAnswer). AreInRange (with_first_burst p a)) (t.discovery && true)
+    (λ n. min n (min (most_first_burst t.profile) p.max_burst_length))
+    (range 512 16777215 (min (most_first_burst t.profile) p.max_burst_length)) (number_in value) h h
+    (λ n e least most. first_taken p n (most_first_burst t.profile) least (some_first t.profile) (long_first t.profile) h)
 key_stays t p key.DefaultTime2Wait value h =
     number_case (λ (a : KeyAnswer). AreInRange (with_wait p a)) (t.discovery && false) (λ n. max n 0) (range 0 3600 0) (number_in value) h h
     (λ n e least most. wait_taken p n most h)

@@ -1,6 +1,8 @@
 -- How the target answers a key, as a function of what was offered (RFC 7143, "Text Mode Negotiation").
 use Rattle.std.specs.Prelude.{ℕ, ◌&&◌, ◌||◌, nat_le, Bool, List, Option, Some, None, min, max, if◌then◌else◌}
+use Rattle.scsi_cdb.specs.declared.profile.Profile.{Profile}
 use Rattle.iscsi_keys.specs.Keys.{key_kind, is_of_data_transfer, range}
+use Rattle.iscsi_keys.specs.Limits.{most_first_burst}
 use Rattle.iscsi_keys.specs.Numbers.{number_in}
 use Rattle.iscsi_keys.specs.Words.{word_text, has_word, boolean_in}
 use Rattle.iscsi_keys.specs.declared.key.Key.{Key}
@@ -43,12 +45,12 @@ answer_of_kind method (kind.And own) value = boolean_answer (λ said. said && ow
 answer_of_kind method (kind.Or own) value = boolean_answer (λ said. said || own) (boolean_in value)
 answer_of_kind method kind.Obsolete value = answer.Reject
 
--- the first burst is no longer than a burst, so its greatest value depends on what was agreed
-abbrev pub kind_for : (burst : ℕ) → Key → KeyKind
-kind_for burst key.FirstBurstLength = kind.Smaller (range 512 16777215 (min 262144 burst))
-kind_for burst other = key_kind other
+-- the first burst is no longer than a burst, so its greatest value depends on what was agreed, and on the profile
+abbrev pub kind_for : Profile → (burst : ℕ) → Key → KeyKind
+kind_for profile burst key.FirstBurstLength = kind.Smaller (range 512 16777215 (min (most_first_burst profile) burst))
+kind_for profile burst other = key_kind other
 
 abbrev pub answer_to : Terms → (burst : ℕ) → Key → (value : List ℕ) → KeyAnswer
 answer_to terms burst key value =
     if terms.discovery && is_of_data_transfer key then answer.Irrelevant
-    else answer_of_kind terms.method (kind_for burst key) value
+    else answer_of_kind terms.method (kind_for terms.profile burst key) value

@@ -1,5 +1,6 @@
 -- Terms, and offers as they come.
 use Rattle.std.specs.Prelude.{ℕ, true, false, List, [], ◌∷◌, codes}
+use Rattle.scsi_cdb.specs.declared.profile.Profile.TheVariants.{Spec, Hosts}
 use Rattle.iscsi_keys.specs.Answers.{answer_to}
 use Rattle.iscsi_keys.specs.Negotiations.{Offer}
 use Rattle.iscsi_keys.specs.declared.key.Key.{Key}
@@ -8,13 +9,17 @@ use Rattle.iscsi_keys.specs.declared.answer.KeyAnswer.{KeyAnswer}
 use Rattle.iscsi_keys.specs.declared.answer.Terms.{Terms}
 
 abbrev pub normal : Terms
-normal = record { discovery = false; method = word.None }
+normal = record { discovery = false; method = word.None; profile = Spec }
 
 abbrev pub by_chap : Terms
-by_chap = record { discovery = false; method = word.Chap }
+by_chap = record { discovery = false; method = word.Chap; profile = Spec }
 
 abbrev pub discovery : Terms
-discovery = record { discovery = true; method = word.None }
+discovery = record { discovery = true; method = word.None; profile = Spec }
+
+-- of a library of the hosts' profile
+abbrev pub for_hosts : Terms
+for_hosts = record normal { profile = Hosts }
 
 -- the answer in a normal session, where bursts are those of the default
 abbrev pub answer_for : Key → List ℕ → KeyAnswer

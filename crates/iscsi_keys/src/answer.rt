@@ -4,8 +4,10 @@ ghost use Rattle.iscsi_keys.specs.Answers.{answer_to, kind_for, answer_of_kind, 
 use crate::key::Key;
 use crate::kind::{KeyKind, Range};
 use crate::number::number_in;
+use crate::parameters::most_first_burst;
 use crate::value::{boolean_in, has_word};
 use crate::word::Word;
+use scsi_cdb::Profile;
 
 /// How a key is answered (RFC 7143, "Text Mode Negotiation").
 #[derive(Clone, Copy)]
@@ -29,6 +31,8 @@ pub struct Terms {
     pub discovery: bool,
     /// The authentication method that is asked for: `None` or `Chap`.
     pub method: Word,
+    /// The profile of the library behind the target.
+    pub profile: Profile,
 }
 
 /// The answer to a key that was offered with a value, where bursts have so many bytes at most.
@@ -38,16 +42,20 @@ pub fn answer_to(terms: Terms, max_burst_length: u32, key: Key, value: &[u8]) ->
     if terms.discovery && key.is_of_data_transfer() {
         return KeyAnswer::Irrelevant;
     }
-    answer_of_kind(terms.method, kind_for(max_burst_length, key), value)
+    answer_of_kind(
+        terms.method,
+        kind_for(terms.profile, max_burst_length, key),
+        value,
+    )
 }
 
-/// The key's kind where bursts have so many bytes at most, which a first burst doesn't exceed.
-fn kind_for(max_burst_length: u32, key: Key) -> KeyKind
-    ensures { result ≡ kind_for max_burst_length key }
+/// The key's kind where bursts have so many bytes at most, which a first burst doesn't exceed, in a library of a profile.
+fn kind_for(profile: Profile, max_burst_length: u32, key: Key) -> KeyKind
+    ensures { result ≡ kind_for profile max_burst_length key }
 {
     match (key, key.kind()) {
         (Key::FirstBurstLength, KeyKind::Smaller(range)) => KeyKind::Smaller(Range {
-            own: range.own.min(max_burst_length),
+            own: most_first_burst(profile).min(max_burst_length),
             ..range
         }),
         (_, kind) => kind,

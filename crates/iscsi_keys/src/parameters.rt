@@ -1,10 +1,22 @@
 ghost use Rattle.std.specs.Prelude.{◌≡◌};
+ghost use Rattle.iscsi_keys.specs.Limits.{most_first_burst};
 
 use crate::answer::KeyAnswer;
 use crate::key::Key;
+use scsi_cdb::Profile;
 
 /// The target's own MaxRecvDataSegmentLength: the most bytes of a data segment that comes to it.
 pub const TARGET_MAX_RECV_DATA_SEGMENT_LENGTH: u32 = 262_144;
+
+/// The most bytes of data that come with a command unasked, in a library of a profile: the target's own FirstBurstLength.
+pub(crate) fn most_first_burst(profile: Profile) -> u32
+    ensures { result ≡ most_first_burst profile }
+{
+    match profile {
+        Profile::Spec => 262_144,
+        Profile::Hosts => 65_536,
+    }
+}
 
 /// What a session goes by, as its login has agreed it. What isn't here has one value that no initiator can change: one
 /// connection, one outstanding R2T, data in order, error recovery level 0.

@@ -4,7 +4,7 @@ ghost use Rattle.iscsi_keys.specs.Negotiations.{answered, after, begun};
 ghost use Rattle.iscsi_keys.specs.IscsiNames.{is_iscsi_name, is_same_name};
 ghost use Rattle.iscsi_keys.specs.Numbers.{number_in};
 ghost use Rattle.iscsi_keys.specs.Texts.{first_item, End, Pair, Invalid};
-ghost use Rattle.iscsi_keys.specs.Rows.{normal, by_chap, discovery, answer_for, offered, initiator_offers};
+ghost use Rattle.iscsi_keys.specs.Rows.{normal, by_chap, discovery, for_hosts, answer_for, offered, initiator_offers};
 ghost use Rattle.iscsi_keys.specs.declared.key.Key.TheVariants as key;
 ghost use Rattle.iscsi_keys.specs.declared.word.Word.TheVariants as word;
 ghost use Rattle.iscsi_keys.specs.declared.answer.KeyAnswer.TheVariants.{Nothing, Number, Boolean, Word, Reject, NotUnderstood, Irrelevant};
@@ -69,6 +69,9 @@ pub fn answer_rows()
     ensures malformed_burst { answer_for key.MaxBurstLength (codes "64K") ≡ Reject }
     ensures first_burst { answer_for key.FirstBurstLength (codes "16777215") ≡ Number 262144 }
     ensures first_burst_within_a_burst { answer_to normal 65536 key.FirstBurstLength (codes "262144") ≡ Number 65536 }
+    ensures first_burst_for_hosts { answer_to for_hosts 262144 key.FirstBurstLength (codes "262144") ≡ Number 65536 }
+    ensures shorter_first_burst_for_hosts { answer_to for_hosts 262144 key.FirstBurstLength (codes "4096") ≡ Number 4096 }
+    ensures first_burst_within_a_burst_for_hosts { answer_to for_hosts 512 key.FirstBurstLength (codes "65536") ≡ Number 512 }
     ensures too_short_a_first_burst { answer_for key.FirstBurstLength (codes "511") ≡ Reject }
     ensures wait { answer_for key.DefaultTime2Wait (codes "3600") ≡ Number 3600 }
     ensures too_long_a_wait { answer_for key.DefaultTime2Wait (codes "3601") ≡ Reject }

@@ -25,7 +25,7 @@ is_discovery Normal = false
 is_discovery Discovery = true
 
 abbrev pub terms_of : LoginTarget → SessionType → Terms
-terms_of target session_type = record { discovery = is_discovery session_type; method = method_of target.authentication }
+terms_of target session_type = record { discovery = is_discovery session_type; method = method_of target.authentication; profile = target.profile }
 
 -- a normal session is one of a target by name; that of discovery needs none (RFC 7143, "TargetName")
 abbrev pub target_fault : LoginTarget → SessionType → (wanted : Option (List ℕ)) → Option LoginStatus

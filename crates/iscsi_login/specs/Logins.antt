@@ -54,6 +54,7 @@ full_feature group r a = record {
   cid = r.cid;
   cmd_sn = r.cmd_sn;
   parameters = a.negotiation.parameters;
+  profile = a.negotiation.terms.profile;
   proved = None;
 }
 

@@ -89,6 +89,7 @@ fn terms_of(target: &LoginTarget, session_type: SessionType) -> Terms
     Terms {
         discovery: matches!(session_type, SessionType::Discovery),
         method: target.authentication.method(),
+        profile: target.profile,
     }
 }
 

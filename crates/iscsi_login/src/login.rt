@@ -8,6 +8,7 @@ use crate::target::LoginTarget;
 use iscsi_chap::{Admission, SessionType};
 use iscsi_keys::SessionParameters;
 use iscsi_pdu::{LoginRequest, LoginStatus, SerialNumber, Stage};
+use scsi_cdb::Profile;
 use std::alloc::AllocError;
 
 /// A login phase, as far as it has come.
@@ -53,6 +54,8 @@ pub struct FullFeature {
     /// The CmdSN that is expected first.
     pub cmd_sn: SerialNumber,
     pub parameters: SessionParameters,
+    /// The profile of the library behind the target.
+    pub profile: Profile,
     /// The place among the target's secrets, counted from 0, of the entry by which the initiator has shown in an exchange who it
     /// is; `None` where it had nothing to show. A login by itself looks at no key of CHAP, and says `None`.
     pub proved: Option<usize>,
@@ -248,6 +251,7 @@ impl OpenLogin {
                 cid: request.cid,
                 cmd_sn: request.cmd_sn,
                 parameters: admitted.negotiation.parameters,
+                profile: admitted.negotiation.terms.profile,
                 proved: None,
             })),
             stage => self.at(request, stage, Some(admitted)),

@@ -1,4 +1,5 @@
 use iscsi_chap::{Access, Authentication};
+use scsi_cdb::Profile;
 
 /// The target that a login comes to.
 #[derive(Drop)]
@@ -7,4 +8,6 @@ pub struct LoginTarget {
     pub name: Vec<u8>,
     pub access: Access,
     pub authentication: Authentication,
+    /// The profile of the library behind it.
+    pub profile: Profile,
 }

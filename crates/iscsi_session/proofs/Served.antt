@@ -73,7 +73,7 @@ is_served {S} {others = others} {resets = resets} {ends = ends} {settles = settl
       asked = answers.asked;
       talks = answers.talks;
       hands = handed;
-      its_own = each_has_just begun.parameters command_data_limit begun.cmd_sn handed.acts;
+      its_own = each_has_just begun.parameters (command_data_limit begun.profile) begun.cmd_sn handed.acts;
       lost = held.lost;
       ends_so = held.ends_so;
     }

@@ -28,9 +28,9 @@ use Rattle.iscsi_session.specs.LoggingIn.{HasReached, Requests, nexus_of}
 use Rattle.iscsi_session.specs.Saying.{normal_world}
 use Rattle.iscsi_session.specs.Talking.{Converses, Event, IsSo, Moment, Takes, Talks, leave_requests, pdus_of}
 
--- the tasks of a session that a login has begun, whose units take as much data of a command as a COMMAND frame has room for
+-- the tasks of a session that a login has begun, whose units take as much data of a command as a COMMAND frame of the profile has room for
 abbrev pub first_tasks : FullFeature → TasksValue
-first_tasks begun = begun_tasks begun.parameters command_data_limit begun.cmd_sn
+first_tasks begun = begun_tasks begun.parameters (command_data_limit begun.profile) begun.cmd_sn
 
 -- what is said behind the login is what is written behind it
 abbrev pub WritesLast : (written written' : Option (List ℕ)) → (said : List TargetPduValue) → Type 0

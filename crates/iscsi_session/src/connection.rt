@@ -5,16 +5,13 @@ ghost use Rattle.iscsi_session.specs.Faults.{IsLater};
 use crate::fault::IscsiFault;
 use crate::portal::Portal;
 use crate::texts::OpenText;
-use frames::MAX_COMMAND_DATA;
+use frames::most_command_data;
 use iscsi_answers::{SequenceNumbers, TransferLimits};
 use iscsi_login::FullFeature;
 use iscsi_pdu::SerialNumber;
 use iscsi_tasks::Tasks;
 use std::alloc::Global;
 use std::io::Write;
-
-/// The most data of a command that a unit is handed, in bytes: as much as a COMMAND frame has room for behind any CDB.
-const MOST_DATA: u32 = MAX_COMMAND_DATA as u32;
 
 /// A connection in full feature.
 #[derive(Drop)]
@@ -35,7 +32,8 @@ impl<'p> Connection<'p> {
     ghost use Rattle.iscsi_tasks.specs.Values.{begun_tasks};
     ghost use Rattle.iscsi_session.specs.Executing.{numbers};
 
-    /// One that begins, with the StatSN of its first answer, behind answers that wait.
+    /// One that begins, with the StatSN of its first answer, behind answers that wait. A unit is handed as much data of a command as a
+    /// COMMAND frame of the profile has room for behind any CDB.
     pub(crate) fn new(
         alloc: Global,
         portal: Portal<'p>,
@@ -43,13 +41,14 @@ impl<'p> Connection<'p> {
         stat_sn: SerialNumber,
         out: Vec<u8>,
     ) -> Connection<'p>
-        ensures tasks { result.tasks ≡ begun_tasks begun.now.parameters command_data_limit begun.now.cmd_sn }
+        ensures tasks { result.tasks ≡ begun_tasks begun.now.parameters (command_data_limit begun.now.profile) begun.now.cmd_sn }
         ensures out { result.out.items ≡ out.items }
     {
         let parameters = begun.parameters;
+        let most_data = most_command_data(begun.profile);
         Connection {
             portal,
-            tasks: Tasks::new(alloc, parameters, MOST_DATA, begun.cmd_sn),
+            tasks: Tasks::new(alloc, parameters, most_data, begun.cmd_sn),
             limits: TransferLimits::new(
                 parameters.max_send_data_segment_length,
                 parameters.max_burst_length,

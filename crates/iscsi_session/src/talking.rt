@@ -16,7 +16,7 @@ use crate::connection::{Connection, flush};
 use crate::fault::{IscsiEnd, IscsiFault};
 use crate::kinds::SessionKind;
 use crate::login::{end_of, read_fault};
-use crate::pdu_buffer::PduBuffer;
+use crate::pdu_buffer::{BATCH, PduBuffer};
 use crate::register::SessionRegister;
 use crate::releasing::release;
 use crate::requests::{basic_header, must_wait};
@@ -25,13 +25,9 @@ use iscsi_keys::TARGET_MAX_RECV_DATA_SEGMENT_LENGTH;
 use iscsi_pdu::{ParsedInitiatorPdu, parse_initiator_pdu};
 use std::alloc::Global;
 use std::io::{self, Read, Write};
-use tape_medium::MAX_BLOCK;
-
-/// As many bytes as are written at once, those of a longest block: past this the answers are written.
-const BATCH: usize = MAX_BLOCK as usize;
 
 /// Room for what waits to be written and for the data of a command behind it, in PDUs.
-pub(crate) const ROOM: usize = 3 * MAX_BLOCK as usize;
+pub(crate) const ROOM: usize = 3 * BATCH;
 
 /// The target transfer tag of pings.
 const PING_TAG: u32 = 0;

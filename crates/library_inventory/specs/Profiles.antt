@@ -17,6 +17,11 @@ abbrev pub start_profile : Profile → Option LibraryNumber → StartProfile
 start_profile profile.Spec number = Spec
 start_profile profile.Hosts number = Hosts number
 
+-- which profile it is
+abbrev pub profile_started : StartProfile → Profile
+profile_started Spec = profile.Spec
+profile_started (Hosts number) = profile.Hosts
+
 -- a library that is made, or is kept with the default profile: of the default profile unless another is given
 abbrev pub new_profile : GivenProfile → Result StartProfile StartFault
 new_profile given =

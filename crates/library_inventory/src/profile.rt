@@ -1,5 +1,5 @@
 ghost use Rattle.std.specs.Prelude.{◌≡◌};
-ghost use Rattle.library_inventory.specs.Profiles.{agreed_number, new_profile, profile_at_start};
+ghost use Rattle.library_inventory.specs.Profiles.{agreed_number, new_profile, profile_at_start, profile_started};
 
 use crate::fault::StartFault;
 use inquiry_data::LibraryNumber;
@@ -11,6 +11,18 @@ use scsi_cdb::Profile;
 pub enum StartProfile {
     Spec,
     Hosts(Option<LibraryNumber>),
+}
+
+impl StartProfile {
+    /// Which profile it is.
+    pub fn profile(self) -> Profile
+        ensures { result ≡ profile_started self }
+    {
+        match self {
+            StartProfile::Spec => Profile::Spec,
+            StartProfile::Hosts(_) => Profile::Hosts,
+        }
+    }
 }
 
 /// The profile of a library at a start. One that is kept stays as it is where nothing is given, and one of the hosts' profile stays of that,

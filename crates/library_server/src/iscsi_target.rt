@@ -8,6 +8,7 @@ use crate::socket_fault::SocketFault;
 use command_line::IscsiOptions;
 use iscsi_login::{Access, Authentication, ChapAccess, ChapDigests, Host, LoginTarget};
 use program_options::{NamedHost, PortalOptions};
+use scsi_cdb::Profile;
 use server::Paths;
 use std::alloc::{AllocError, Global};
 use std::fs::Files;
@@ -41,7 +42,7 @@ fn authentication_of<R: AllocGlobal + Files>(
 }
 
 /// The target that is asked for. Where none is, it has no portals. Its initiators show who they are by CHAP exactly where a file of secrets is
-/// named, and by the digests that are asked for.
+/// named, and by the digests that are asked for. Its library is of the default profile until that is known.
 pub(crate) fn target_of<R: AllocGlobal + Files>(
     rt: &R,
     iscsi: Option<IscsiOptions>,
@@ -105,6 +106,7 @@ fn target_named(
         name: Vec::from_slice(alloc, name.as_bytes())?,
         access: Access { hosts, any_host },
         authentication,
+        profile: Profile::Spec,
     })
 }
 

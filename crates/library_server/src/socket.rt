@@ -21,6 +21,7 @@ use command_line::ServeOptions;
 use library_start::{Device, library_within};
 use output_lines::{Audit, RecordOutput};
 use program_options::{LibraryOptions, LibraryProfile, MAX_READS, ServeTimes, ServeUntil};
+use scsi_cdb::Profile;
 use server::{
     LiveSessions, LoginTerms, PollSource, ServeLimits, ServeTerm, Teller, Telling, WaitTimes,
 };
@@ -77,7 +78,7 @@ pub fn serve<
         times,
         log,
     } = serving;
-    let made = target_of(rt, iscsi)?;
+    let mut made = target_of(rt, iscsi)?;
     let sink = sink_of(rt.alloc(), files, record_file, &made.target.access.hosts)?;
     let service = ServiceOptions {
         until,
@@ -97,6 +98,7 @@ pub fn serve<
             let size = options.volume_size;
             let kept = saved_library(rt.alloc(), files, media, size, &memory, errors)?;
             let SavedLibrary { core, keeper } = kept;
+            made.target.profile = core.profile();
             let places = ServedAt {
                 socket,
                 control,
@@ -106,6 +108,7 @@ pub fn serve<
         }
         None => {
             let core = library_within(rt.alloc(), &options, profile, &memory)?;
+            made.target.profile = core.profile();
             let places = ServedAt {
                 socket,
                 control,
@@ -324,7 +327,7 @@ fn serve_until<
             requires doors { (0 < vec_len places.now.doors) × (vec_len places.now.doors ≤ 5) }
         {
             let mut writer = io::writer(rt);
-            let limits = limits_of(until, times, &sessions);
+            let limits = limits_of(until, times, core.profile(), &sessions);
             let means = ServiceMeans {
                 rt,
                 alloc: rt.alloc(),
@@ -349,8 +352,13 @@ fn serve_until<
     served
 }
 
-/// How many sessions are served, for which term, and how long hosts are waited for.
-fn limits_of(until: ServeUntil, times: ServeTimes, sessions: &LiveSessions) -> ServeLimits<'_>
+/// How many sessions are served with a library of a profile, for which term, and how long hosts are waited for.
+fn limits_of(
+    until: ServeUntil,
+    times: ServeTimes,
+    profile: Profile,
+    sessions: &LiveSessions,
+) -> ServeLimits<'_>
     ensures workers { result.workers ≡ workers_of until }
     ensures term { result.term ≡ term_of until }
 {
@@ -364,6 +372,7 @@ fn limits_of(until: ServeUntil, times: ServeTimes, sessions: &LiveSessions) -> S
             write: times.write,
             ping: times.ping,
         },
+        profile,
         sessions,
     }
 }

@@ -1,6 +1,8 @@
 -- A command of a nexus to which the changing classes are closed moves the tape at most.
 use Rattle.std.proofs.Common.{◌≡◌, ℕ, Bool, true, false, cond, ◌==◌, ◌&&◌, List, [], Option, Some, None, Result, Ok, Err, inl, inr, refl, sym, ap, subst}
 use Rattle.std.specs.Prelude.{ℤ, pos, negsuc, length}
+use Rattle.scsi_cdb.specs.declared.profile.Profile.{Profile}
+use Rattle.scsi_cdb.specs.declared.profile.Profile.TheVariants.{Spec, Hosts}
 use Rattle.scsi_cdb.specs.declared.request.Request.{Request}
 use Rattle.scsi_cdb.specs.declared.request.Request.TheVariants as request
 use Rattle.scsi_cdb.specs.Classes.{class_of}
@@ -28,7 +30,7 @@ use Rattle.device_server.specs.declared.outcome.Outcome.{Outcome}
 use Rattle.device_server.specs.Outcomes.{done, refused}
 use Rattle.device_server.specs.Drive.{DriveView, run, after_run, behind_run, reads, reads_fixed, unless_nothing, is_fixed_transfer, space_code, on_tape, in_volume, in_bay, drive_step}
 use Rattle.device_server.specs.declared.host_drive.HostDrive.{HostDrive}
-use Rattle.device_server.specs.HostDrive.{not_ready, host_in_volume, host_in_bay, host_drive_step}
+use Rattle.device_server.specs.HostDrive.{not_ready, host_on_tape, host_in_volume, host_in_bay, host_drive_step}
 use Rattle.device_server.specs.View.{DeviceView, Drive, Changer, commands_of, field_fault, drive_stepped, stepped, performed}
 use Rattle.device_server.specs.Volumes.{SameVolume, SameAt}
 use Rattle.device_server.proofs.TapeLemmas.{same_volume}
@@ -87,33 +89,39 @@ module _ (ty : ResType) (ro : Role) (closed : row_allows Changing ty ro ≡ fals
   abbrev Let : Request → Type 0
   Let r = row_allows (group_of (class_of r)) ty ro ≡ true
 
-  tape_same : (m : ℕ) (protected : Bool) (t : TapeView) (r : Request) (bytes : List ℕ) → Let r → SameTape t (on_tape m protected t r bytes).0
-  tape_same m protected t request.TestUnitReady bytes h = same_tape t
-  tape_same m protected t request.Rewind bytes h = record { objects = refl; capacity = refl }
-  tape_same m protected t (request.RequestSense desc l) bytes h = same_tape t
-  tape_same m protected t request.ReadBlockLimits bytes h = same_tape t
-  tape_same m protected t request.InitializeElementStatus bytes h = same_tape t
-  tape_same m protected t (request.Read sili false asked) bytes h = either_same t (asked == 0) (t, done []) (reads sili m asked t) (same_tape t) (passed_same (object_at t) t t (same_tape t))
-  tape_same m protected t (request.Read sili true count) bytes h =
-      either_same t (is_fixed_transfer m count) (unless_nothing count t (reads_fixed m count t)) (t, refused InvalidFieldInCdb)
+  tape_same : (p : Profile) (m : ℕ) (protected : Bool) (t : TapeView) (r : Request) (bytes : List ℕ) → Let r → SameTape t (on_tape p m protected t r bytes).0
+  tape_same p m protected t request.TestUnitReady bytes h = same_tape t
+  tape_same p m protected t request.Rewind bytes h = record { objects = refl; capacity = refl }
+  tape_same p m protected t (request.RequestSense desc l) bytes h = same_tape t
+  tape_same p m protected t request.ReadBlockLimits bytes h = same_tape t
+  tape_same p m protected t request.InitializeElementStatus bytes h = same_tape t
+  tape_same p m protected t (request.Read sili false asked) bytes h = either_same t (asked == 0) (t, done []) (reads sili m asked t) (same_tape t) (passed_same (object_at t) t t (same_tape t))
+  tape_same p m protected t (request.Read sili true count) bytes h =
+      either_same t (is_fixed_transfer p m count) (unless_nothing count t (reads_fixed m count t)) (t, refused InvalidFieldInCdb)
       (either_same t (count == 0) (t, done []) (reads_fixed m count t) (same_tape t) (run_same t count (run m (ahead t) count))) (same_tape t)
-  tape_same m protected t (request.Write fixed asked) bytes h = barred _ h closed
-  tape_same m protected t (request.WriteFilemarks wsmk immed count) bytes h = barred _ h closed
-  tape_same m protected t (request.Space code count) bytes h = spaced_same (space_code code) t count
-  tape_same m protected t (request.Inquiry evpd page l) bytes h = same_tape t
-  tape_same m protected t (request.ModeSelect sp l) bytes h = same_tape t
-  tape_same m protected t request.Erase bytes h = barred _ h closed
-  tape_same m protected t (request.ModeSense dbd pc page subpage l) bytes h = same_tape t
-  tape_same m protected t (request.LoadUnload hold eot load) bytes h = same_tape t
-  tape_same m protected t (request.PreventAllowMediumRemoval prevent) bytes h = same_tape t
-  tape_same m protected t (request.Locate bt cp object partition) bytes h = record { objects = refl; capacity = refl }
-  tape_same m protected t request.ReadPosition bytes h = same_tape t
-  tape_same m protected t (request.PersistentReserveIn action l) bytes h = same_tape t
-  tape_same m protected t (request.PersistentReserveOut action scope_type l) bytes h = same_tape t
-  tape_same m protected t (request.ReportLuns select l) bytes h = same_tape t
-  tape_same m protected t (request.MoveMedium transport source destination invert) bytes h = same_tape t
-  tape_same m protected t (request.ReadElementStatus voltag type_code start count curdata dvcid l) bytes h = same_tape t
-  tape_same m protected t (request.Host command) bytes h = same_tape t
+  tape_same p m protected t (request.Write fixed asked) bytes h = barred _ h closed
+  tape_same p m protected t (request.WriteFilemarks wsmk immed count) bytes h = barred _ h closed
+  tape_same p m protected t (request.Space code count) bytes h = spaced_same (space_code code) t count
+  tape_same p m protected t (request.Inquiry evpd page l) bytes h = same_tape t
+  tape_same p m protected t (request.ModeSelect sp l) bytes h = same_tape t
+  tape_same p m protected t request.Erase bytes h = barred _ h closed
+  tape_same p m protected t (request.ModeSense dbd pc page subpage l) bytes h = same_tape t
+  tape_same p m protected t (request.LoadUnload hold eot load) bytes h = same_tape t
+  tape_same p m protected t (request.PreventAllowMediumRemoval prevent) bytes h = same_tape t
+  tape_same p m protected t (request.Locate bt cp object partition) bytes h = record { objects = refl; capacity = refl }
+  tape_same p m protected t request.ReadPosition bytes h = same_tape t
+  tape_same p m protected t (request.PersistentReserveIn action l) bytes h = same_tape t
+  tape_same p m protected t (request.PersistentReserveOut action scope_type l) bytes h = same_tape t
+  tape_same p m protected t (request.ReportLuns select l) bytes h = same_tape t
+  tape_same p m protected t (request.MoveMedium transport source destination invert) bytes h = same_tape t
+  tape_same p m protected t (request.ReadElementStatus voltag type_code start count curdata dvcid l) bytes h = same_tape t
+  tape_same p m protected t (request.Host command) bytes h = same_tape t
+
+  host_tape_same : (m : ℕ) (protected : Bool) (t : TapeView) (r : Request) (bytes : List ℕ) → Let r → SameTape t (host_on_tape m protected t r bytes).0
+  host_tape_same m protected t (request.Write fixed told) bytes h = barred _ h closed
+  host_tape_same m protected t (request.WriteFilemarks wsmk immed count) bytes h = barred _ h closed
+  host_tape_same m protected t request.ReadPosition bytes h = same_tape t
+  host_tape_same m protected t r bytes h = tape_same Hosts m protected t r bytes h
 
   abbrev SameDrive : DriveView → DriveView → Type 0
   SameDrive d e = SameContents (Drive d) (Drive e)
@@ -141,8 +149,8 @@ module _ (ty : ResType) (ro : Role) (closed : row_allows Changing ty ro ≡ fals
   bay_same : (d : DriveView) (o : Option Volume) (r : Request) (bytes : List ℕ) → d.bay ≡ o → Let r → SameDrive d (in_bay d o r bytes).0
   bay_same d None r bytes e h = drive_self d
   bay_same d (Some v) r bytes e h =
-      either_drive d d.loaded (in_volume d v (on_tape d.block_length v.protected v.tape r bytes)) (d, refused InitializingCommandRequired)
-      (in_volume_same d v (on_tape d.block_length v.protected v.tape r bytes) e (tape_same d.block_length v.protected v.tape r bytes h)) (drive_self d)
+      either_drive d d.loaded (in_volume d v (on_tape Spec d.block_length v.protected v.tape r bytes)) (d, refused InitializingCommandRequired)
+      (in_volume_same d v (on_tape Spec d.block_length v.protected v.tape r bytes) e (tape_same Spec d.block_length v.protected v.tape r bytes h)) (drive_self d)
 
   drive_same : (d : DriveView) (r : Request) (bytes : List ℕ) → Let r → SameDrive d (drive_step d r bytes).0
   drive_same d request.ReadBlockLimits bytes h = drive_self d
@@ -176,8 +184,8 @@ module _ (ty : ResType) (ro : Role) (closed : row_allows Changing ty ro ≡ fals
   host_bay_same : (d : DriveView) (h : HostDrive) (o : Option Volume) (r : Request) (bytes : List ℕ) → d.hosts ≡ Some h → d.bay ≡ o → Let r → SameDrive d (host_in_bay d h o r bytes).0
   host_bay_same d h None r bytes is e lets = drive_self d
   host_bay_same d h (Some v) r bytes is e lets =
-      either_drive d d.loaded (host_in_volume d h v r (on_tape d.block_length v.protected v.tape r bytes)) (d, refused (not_ready h.held))
-      (host_in_volume_same d h v r (on_tape d.block_length v.protected v.tape r bytes) is e (tape_same d.block_length v.protected v.tape r bytes lets)) (drive_self d)
+      either_drive d d.loaded (host_in_volume d h v r (host_on_tape d.block_length v.protected v.tape r bytes)) (d, refused (not_ready h.held))
+      (host_in_volume_same d h v r (host_on_tape d.block_length v.protected v.tape r bytes) is e (host_tape_same d.block_length v.protected v.tape r bytes lets)) (drive_self d)
 
   host_drive_same : (d : DriveView) (h : HostDrive) (r : Request) (bytes : List ℕ) → d.hosts ≡ Some h → Let r → SameDrive d (host_drive_step d h r bytes).0
   host_drive_same d h request.ReadBlockLimits bytes is lets = drive_self d

@@ -4,13 +4,15 @@ use Rattle.std.specs.Prelude.{◌+◌, ◌==◌, nat_lt, not, ◌&&◌, length, 
 use Rattle.scsi_cdb.specs.declared.classes.Class.{Class}
 use Rattle.scsi_cdb.specs.declared.classes.Class.TheVariants as class
 use Rattle.scsi_cdb.specs.declared.kind.Kind.{Kind}
+use Rattle.scsi_cdb.specs.declared.profile.Profile.{Profile}
+use Rattle.scsi_cdb.specs.declared.profile.Profile.TheVariants.{Spec}
 use Rattle.scsi_cdb.specs.declared.request.Request.{Request}
 use Rattle.scsi_cdb.specs.declared.request.Request.TheVariants as request
 use Rattle.scsi_cdb.specs.Classes.{class_of}
 use Rattle.scsi_sense.specs.declared.condition.Condition.{Condition}
 use Rattle.scsi_sense.specs.declared.condition.Condition.TheVariants.{InvalidFieldInCdb, InvalidFieldInParameterList, ParameterListLengthError, SavingParametersNotSupported}
 use Rattle.device_server.specs.Fields.{invalid_where, mode_select_fault, write_fault, spec_field_fault}
-use Rattle.tape_medium.specs.Limits.{block_limit}
+use Rattle.tape_medium.specs.Limits.{most_block}
 use Rattle.device_server.specs.Mode.{list_fault, descriptor_length, block_length_in}
 use Rattle.logical_unit.specs.Legal.{is_field_fault}
 
@@ -27,9 +29,9 @@ sense_fits : (saved wrong : Bool) → IsFaultIf class.ModeSense (cond saved (Som
 sense_fits true wrong = refl
 sense_fits false wrong = where_fits class.ModeSense wrong refl
 
-write_fits : (fixed : Bool) (l : ℕ) (bytes : List ℕ) → IsFaultIf class.Write (write_fault fixed l bytes)
-write_fits true l bytes = tt
-write_fits false l bytes = where_fits class.Write _ refl
+pub write_fits : (p : Profile) (fixed : Bool) (l : ℕ) (bytes : List ℕ) → IsFaultIf class.Write (write_fault p fixed l bytes)
+write_fits p true l bytes = tt
+write_fits p false l bytes = where_fits class.Write _ refl
 
 -- the tests of MODE SELECT's list, one after another
 tests_fit : (none other short unknown wrong long : Bool)
@@ -45,7 +47,7 @@ tests_fit false false false false false false = tt
 list_fits : (told : ℕ) (list : List ℕ) → IsFaultIf class.ModeSelect (list_fault told list)
 list_fits told list =
     let described = descriptor_length list in
-    tests_fit (told == 0) (not (length list == told)) (nat_lt told 4) (not (described == 0) && not (described == 8)) (not (told == 4 + described)) (described == 8 && nat_lt block_limit (block_length_in list))
+    tests_fit (told == 0) (not (length list == told)) (nat_lt told 4) (not (described == 0) && not (described == 8)) (not (told == 4 + described)) (described == 8 && nat_lt (most_block Spec) (block_length_in list))
 
 select_fits : (save : Bool) (told : ℕ) (list : List ℕ) → IsFaultIf class.ModeSelect (mode_select_fault save told list)
 select_fits true told list = refl
@@ -58,7 +60,7 @@ spec_fits kind (request.RequestSense desc l) bytes = tt
 spec_fits kind request.ReadBlockLimits bytes = tt
 spec_fits kind request.InitializeElementStatus bytes = tt
 spec_fits kind (request.Read sili fixed l) bytes = where_fits class.Read _ refl
-spec_fits kind (request.Write fixed l) bytes = write_fits fixed l bytes
+spec_fits kind (request.Write fixed l) bytes = write_fits Spec fixed l bytes
 spec_fits kind (request.WriteFilemarks wsmk immed l) bytes = where_fits class.WriteFilemarks wsmk refl
 spec_fits kind (request.Space code l) bytes = where_fits class.Space _ refl
 spec_fits kind (request.Inquiry evpd page l) bytes = tt

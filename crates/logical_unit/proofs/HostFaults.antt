@@ -16,7 +16,7 @@ use Rattle.scsi_cdb.specs.declared.request.Request.{Request}
 use Rattle.scsi_cdb.specs.declared.request.Request.TheVariants as request
 use Rattle.scsi_sense.specs.declared.condition.Condition.{Condition}
 use Rattle.scsi_sense.specs.declared.condition.Condition.TheVariants.{InvalidFieldInCdb, InvalidFieldInParameterList, ParameterListLengthError}
-use Rattle.tape_medium.specs.Limits.{block_limit}
+use Rattle.tape_medium.specs.Limits.{most_block}
 use Rattle.mode_pages.specs.Asked.{asked, is_offered, asked_fault}
 use Rattle.mode_pages.specs.DrivePages.{page_of_code, page_length}
 use Rattle.mode_pages.specs.Lists.{header_length}
@@ -43,7 +43,7 @@ use Rattle.supported_commands.specs.declared.options.ReportingOptions.{Reporting
 use Rattle.device_server.specs.FieldFaults.{field_fault_by, field_fault_of}
 use Rattle.device_server.specs.Hosts.{mode_sense, log_sense, log_select, codes_fault}
 use Rattle.device_server.specs.HostFields.{refusal_of, host_mode_sense_fault, log_sense_fault, host_command_fault, host_field_fault}
-use Rattle.logical_unit.proofs.FieldFaults.{IsFaultIf, where_fits, spec_fits}
+use Rattle.logical_unit.proofs.FieldFaults.{IsFaultIf, where_fits, write_fits, spec_fits}
 
 -- LISTS. What is refused of a MODE SELECT, and of a LOG SELECT, is of the CDB or of the list
 abbrev Fits : {A : Type 0} → Result A Condition → Type 0
@@ -153,7 +153,7 @@ command_fits : (k : Kind) (command : HostRequest) (bytes : List ℕ) → IsFault
 command_fits k (host.SendDiagnostic code test l) bytes = where_fits class.SendDiagnostic (not (code == 0) || not (l == 0)) refl
 command_fits k (host.LogSelect pcr sp pc page subpage l) bytes = log_selected_fits k (log_select pcr sp page subpage l) (length bytes)
 command_fits k (host.LogSense ppc sp pc page subpage pointer l) bytes = log_sense_fits k (log_sense ppc sp page subpage pointer)
-command_fits k (host.ModeSelect10 sp l) bytes = selected_fits default_values block_limit Ten sp l bytes
+command_fits k (host.ModeSelect10 sp l) bytes = selected_fits default_values (most_block Hosts) Ten sp l bytes
 command_fits k (host.ModeSense10 dbd pc page subpage l) bytes = mode_sense_fits k (mode_sense Ten dbd pc page subpage)
 command_fits k (host.ReportSupportedOperationCodes rctd options code action l) bytes = codes_fit k rctd (options_at options) code action
 command_fits k (host.ReportSupportedTaskManagementFunctions repd l) bytes = tt
@@ -167,7 +167,8 @@ status_fits true wrong = where_fits class.ReadElementStatusCurdata wrong refl
 status_fits false wrong = where_fits class.ReadElementStatus wrong refl
 
 host_fits : (k : Kind) (r : Request) (bytes : List ℕ) → IsFaultIf (class_of r) (host_field_fault k r bytes)
-host_fits k (request.ModeSelect sp l) bytes = selected_fits default_values block_limit Six sp l bytes
+host_fits k (request.Write fixed l) bytes = write_fits Hosts fixed l bytes
+host_fits k (request.ModeSelect sp l) bytes = selected_fits default_values (most_block Hosts) Six sp l bytes
 host_fits k (request.ModeSense dbd pc page subpage l) bytes = mode_sense_fits k (mode_sense Six dbd pc page subpage)
 host_fits k (request.LoadUnload hold eot load) bytes = where_fits class.LoadUnload (eot || hold && load) refl
 host_fits k (request.Locate bt cp object partition) bytes = where_fits class.Locate (cp && not (partition == 0)) refl

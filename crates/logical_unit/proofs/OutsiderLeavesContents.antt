@@ -1,5 +1,7 @@
 -- A command that is neither of the reading nor of the changing classes leaves its device.
 use Rattle.std.proofs.Common.{◌≡◌, ℕ, Bool, true, false, cond, List, Option, Some, None, Result, Ok, Err, refl, sym, ap, ◌∙◌}
+use Rattle.scsi_cdb.specs.declared.profile.Profile.{Profile}
+use Rattle.scsi_cdb.specs.declared.profile.Profile.TheVariants.{Spec, Hosts}
 use Rattle.scsi_cdb.specs.declared.request.Request.{Request}
 use Rattle.scsi_cdb.specs.declared.request.Request.TheVariants as request
 use Rattle.scsi_cdb.specs.Classes.{class_of}
@@ -20,7 +22,7 @@ use Rattle.device_server.specs.declared.host_drive.HostDrive.{HostDrive}
 use Rattle.device_server.specs.Changer.{changer_step}
 use Rattle.device_server.specs.Drive.{DriveView, on_tape, in_volume, in_bay, drive_step}
 use Rattle.device_server.specs.HostChanger.{ChangerView, changer_command_step, host_changer_step}
-use Rattle.device_server.specs.HostDrive.{not_ready, host_in_volume, host_in_bay, host_command_step, host_drive_step}
+use Rattle.device_server.specs.HostDrive.{not_ready, host_on_tape, host_in_volume, host_in_bay, host_command_step, host_drive_step}
 use Rattle.device_server.specs.View.{DeviceView, Drive, Changer, field_fault, drive_stepped, changer_stepped, stepped, performed}
 
 -- a sender of this role reads and changes nothing under this type
@@ -41,30 +43,36 @@ pub record Quiet {A : Type 0} (a : A) (x : A × Outcome) : Type 0 where
 abbrev pub Let : ResType → Role → Request → Type 0
 Let t ro r = row_allows (group_of (class_of r)) t ro ≡ true
 
-tape_quiet : (ty : ResType) (ro : Role) → Shut ty ro → (m : ℕ) (protected : Bool) (t : TapeView) (r : Request) (bytes : List ℕ) → Let ty ro r → Quiet t (on_tape m protected t r bytes)
-tape_quiet ty ro s m protected t request.TestUnitReady bytes h = record { same = refl; steady = refl }
-tape_quiet ty ro s m protected t request.Rewind bytes h = barred _ h s.reading
-tape_quiet ty ro s m protected t (request.RequestSense desc l) bytes h = record { same = refl; steady = refl }
-tape_quiet ty ro s m protected t request.ReadBlockLimits bytes h = record { same = refl; steady = refl }
-tape_quiet ty ro s m protected t request.InitializeElementStatus bytes h = record { same = refl; steady = refl }
-tape_quiet ty ro s m protected t (request.Read sili fixed asked) bytes h = barred _ h s.reading
-tape_quiet ty ro s m protected t (request.Write fixed asked) bytes h = barred _ h s.changing
-tape_quiet ty ro s m protected t (request.WriteFilemarks wsmk immed count) bytes h = barred _ h s.changing
-tape_quiet ty ro s m protected t (request.Space code count) bytes h = barred _ h s.reading
-tape_quiet ty ro s m protected t (request.Inquiry evpd page l) bytes h = record { same = refl; steady = refl }
-tape_quiet ty ro s m protected t (request.ModeSelect sp l) bytes h = record { same = refl; steady = refl }
-tape_quiet ty ro s m protected t request.Erase bytes h = barred _ h s.changing
-tape_quiet ty ro s m protected t (request.ModeSense dbd pc page subpage l) bytes h = record { same = refl; steady = refl }
-tape_quiet ty ro s m protected t (request.LoadUnload hold eot load) bytes h = record { same = refl; steady = refl }
-tape_quiet ty ro s m protected t (request.PreventAllowMediumRemoval prevent) bytes h = record { same = refl; steady = refl }
-tape_quiet ty ro s m protected t (request.Locate bt cp object partition) bytes h = barred _ h s.reading
-tape_quiet ty ro s m protected t request.ReadPosition bytes h = record { same = refl; steady = refl }
-tape_quiet ty ro s m protected t (request.PersistentReserveIn action l) bytes h = record { same = refl; steady = refl }
-tape_quiet ty ro s m protected t (request.PersistentReserveOut action scope_type l) bytes h = record { same = refl; steady = refl }
-tape_quiet ty ro s m protected t (request.ReportLuns select l) bytes h = record { same = refl; steady = refl }
-tape_quiet ty ro s m protected t (request.MoveMedium transport source destination invert) bytes h = record { same = refl; steady = refl }
-tape_quiet ty ro s m protected t (request.ReadElementStatus voltag type_code start count curdata dvcid l) bytes h = record { same = refl; steady = refl }
-tape_quiet ty ro s m protected t (request.Host command) bytes h = record { same = refl; steady = refl }
+tape_quiet : (ty : ResType) (ro : Role) → Shut ty ro → (p : Profile) (m : ℕ) (protected : Bool) (t : TapeView) (r : Request) (bytes : List ℕ) → Let ty ro r → Quiet t (on_tape p m protected t r bytes)
+tape_quiet ty ro s p m protected t request.TestUnitReady bytes h = record { same = refl; steady = refl }
+tape_quiet ty ro s p m protected t request.Rewind bytes h = barred _ h s.reading
+tape_quiet ty ro s p m protected t (request.RequestSense desc l) bytes h = record { same = refl; steady = refl }
+tape_quiet ty ro s p m protected t request.ReadBlockLimits bytes h = record { same = refl; steady = refl }
+tape_quiet ty ro s p m protected t request.InitializeElementStatus bytes h = record { same = refl; steady = refl }
+tape_quiet ty ro s p m protected t (request.Read sili fixed asked) bytes h = barred _ h s.reading
+tape_quiet ty ro s p m protected t (request.Write fixed asked) bytes h = barred _ h s.changing
+tape_quiet ty ro s p m protected t (request.WriteFilemarks wsmk immed count) bytes h = barred _ h s.changing
+tape_quiet ty ro s p m protected t (request.Space code count) bytes h = barred _ h s.reading
+tape_quiet ty ro s p m protected t (request.Inquiry evpd page l) bytes h = record { same = refl; steady = refl }
+tape_quiet ty ro s p m protected t (request.ModeSelect sp l) bytes h = record { same = refl; steady = refl }
+tape_quiet ty ro s p m protected t request.Erase bytes h = barred _ h s.changing
+tape_quiet ty ro s p m protected t (request.ModeSense dbd pc page subpage l) bytes h = record { same = refl; steady = refl }
+tape_quiet ty ro s p m protected t (request.LoadUnload hold eot load) bytes h = record { same = refl; steady = refl }
+tape_quiet ty ro s p m protected t (request.PreventAllowMediumRemoval prevent) bytes h = record { same = refl; steady = refl }
+tape_quiet ty ro s p m protected t (request.Locate bt cp object partition) bytes h = barred _ h s.reading
+tape_quiet ty ro s p m protected t request.ReadPosition bytes h = record { same = refl; steady = refl }
+tape_quiet ty ro s p m protected t (request.PersistentReserveIn action l) bytes h = record { same = refl; steady = refl }
+tape_quiet ty ro s p m protected t (request.PersistentReserveOut action scope_type l) bytes h = record { same = refl; steady = refl }
+tape_quiet ty ro s p m protected t (request.ReportLuns select l) bytes h = record { same = refl; steady = refl }
+tape_quiet ty ro s p m protected t (request.MoveMedium transport source destination invert) bytes h = record { same = refl; steady = refl }
+tape_quiet ty ro s p m protected t (request.ReadElementStatus voltag type_code start count curdata dvcid l) bytes h = record { same = refl; steady = refl }
+tape_quiet ty ro s p m protected t (request.Host command) bytes h = record { same = refl; steady = refl }
+
+host_tape_quiet : (ty : ResType) (ro : Role) → Shut ty ro → (m : ℕ) (protected : Bool) (t : TapeView) (r : Request) (bytes : List ℕ) → Let ty ro r → Quiet t (host_on_tape m protected t r bytes)
+host_tape_quiet ty ro s m protected t (request.Write fixed told) bytes h = barred _ h s.changing
+host_tape_quiet ty ro s m protected t (request.WriteFilemarks wsmk immed count) bytes h = barred _ h s.changing
+host_tape_quiet ty ro s m protected t request.ReadPosition bytes h = record { same = refl; steady = refl }
+host_tape_quiet ty ro s m protected t r bytes h = tape_quiet ty ro s Hosts m protected t r bytes h
 
 in_volume_quiet : (d : DriveView) (v : Volume) (x : TapeView × Outcome) → d.bay ≡ Some v → Quiet v.tape x → Quiet d (in_volume d v x)
 in_volume_quiet d v x h q = record {
@@ -79,8 +87,8 @@ either_quiet a false x y p q = q
 bay_quiet : (ty : ResType) (ro : Role) → Shut ty ro → (d : DriveView) (o : Option Volume) (r : Request) (bytes : List ℕ) → d.bay ≡ o → Let ty ro r → Quiet d (in_bay d o r bytes)
 bay_quiet ty ro s d None r bytes e h = record { same = refl; steady = refl }
 bay_quiet ty ro s d (Some v) r bytes e h =
-    either_quiet d d.loaded (in_volume d v (on_tape d.block_length v.protected v.tape r bytes)) (d, refused InitializingCommandRequired)
-    (in_volume_quiet d v (on_tape d.block_length v.protected v.tape r bytes) e (tape_quiet ty ro s d.block_length v.protected v.tape r bytes h)) (record { same = refl; steady = refl })
+    either_quiet d d.loaded (in_volume d v (on_tape Spec d.block_length v.protected v.tape r bytes)) (d, refused InitializingCommandRequired)
+    (in_volume_quiet d v (on_tape Spec d.block_length v.protected v.tape r bytes) e (tape_quiet ty ro s Spec d.block_length v.protected v.tape r bytes h)) (record { same = refl; steady = refl })
 
 drive_quiet : (ty : ResType) (ro : Role) → Shut ty ro → (d : DriveView) (r : Request) (bytes : List ℕ) → Let ty ro r → Quiet d (drive_step d r bytes)
 drive_quiet ty ro s d request.TestUnitReady bytes h = bay_quiet ty ro s d d.bay request.TestUnitReady bytes refl h
@@ -151,8 +159,8 @@ uncounted ty ro s d h v r x is bay lets q = record {
 host_bay_quiet : (ty : ResType) (ro : Role) → Shut ty ro → (d : DriveView) (h : HostDrive) (o : Option Volume) (r : Request) (bytes : List ℕ) → d.hosts ≡ Some h → d.bay ≡ o → Let ty ro r → Quiet d (host_in_bay d h o r bytes)
 host_bay_quiet ty ro s d h None r bytes is e lets = record { same = refl; steady = refl }
 host_bay_quiet ty ro s d h (Some v) r bytes is e lets =
-    either_quiet d d.loaded (host_in_volume d h v r (on_tape d.block_length v.protected v.tape r bytes)) (d, refused (not_ready h.held))
-    (uncounted ty ro s d h v r (on_tape d.block_length v.protected v.tape r bytes) is e lets (tape_quiet ty ro s d.block_length v.protected v.tape r bytes lets)) (record { same = refl; steady = refl })
+    either_quiet d d.loaded (host_in_volume d h v r (host_on_tape d.block_length v.protected v.tape r bytes)) (d, refused (not_ready h.held))
+    (uncounted ty ro s d h v r (host_on_tape d.block_length v.protected v.tape r bytes) is e lets (host_tape_quiet ty ro s d.block_length v.protected v.tape r bytes lets)) (record { same = refl; steady = refl })
 
 pub host_command_quiet : (ty : ResType) (ro : Role) → row_allows Changing ty ro ≡ false → (d : DriveView) (h : HostDrive) (c : HostRequest) (bytes : List ℕ) → Let ty ro (request.Host c) → Quiet d (host_command_step d h c bytes)
 host_command_quiet ty ro closed d h (host.SendDiagnostic code test l) bytes lets = record { same = refl; steady = refl }

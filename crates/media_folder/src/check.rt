@@ -9,10 +9,11 @@ use crate::refusal::ImageRefusal;
 use crate::seen::SeenFiles;
 use crate::summary::ImageSummary;
 use library_inventory::{PlacedVolume, name_of_tag};
+use scsi_cdb::Profile;
 use std::fs::{self, Files};
 use std::io::{BufReader, Write};
 use tape_image::index_image;
-use tape_medium::VolumeTag;
+use tape_medium::{VolumeTag, most_block};
 
 /// How many volumes have something wrong.
 #[derive(Clone, Copy)]
@@ -36,7 +37,8 @@ pub fn check_folder<R: AllocGlobal + Files, W: Write, E: Write>(
         return Err(CheckFault::Folder(FolderFault::NoLibrary(path)));
     };
     let tags = list_volumes(rt, folder, errors)?;
-    let mut findings = check_images(rt, folder, &tags, out)?;
+    let profile = kept.inventory.profile().profile();
+    let mut findings = check_images(rt, folder, profile, &tags, out)?;
     findings.faulty = findings
         .faulty
         .saturating_add(write_missing(&tags, kept.inventory.volumes(), out)?)
@@ -61,6 +63,7 @@ pub fn check_folder<R: AllocGlobal + Files, W: Write, E: Write>(
 fn check_images<R: AllocGlobal + Files, W: Write>(
     rt: &R,
     folder: &str,
+    profile: Profile,
     tags: &[VolumeTag],
     out: &mut W,
 ) -> Result<Findings, CheckFault> {
@@ -72,7 +75,7 @@ fn check_images<R: AllocGlobal + Files, W: Write>(
     for tag in tags {
         let path = volume_path(rt.alloc(), folder, tag)?;
         let summary = match seen.look(rt, path.as_str()) {
-            Ok(_) => summary_at(rt, path.as_str()),
+            Ok(_) => summary_at(rt, path.as_str(), profile),
             Err(refusal) => Err(refusal),
         };
         write_summary(tag, &summary, &mut findings, out)?;
@@ -80,12 +83,16 @@ fn check_images<R: AllocGlobal + Files, W: Write>(
     Ok(findings)
 }
 
-/// What the image at a path holds.
-fn summary_at<R: AllocGlobal + Files>(rt: &R, path: &str) -> Result<ImageSummary, ImageRefusal> {
+/// What the image at a path holds, of a volume of a library of a profile.
+fn summary_at<R: AllocGlobal + Files>(
+    rt: &R,
+    path: &str,
+    profile: Profile,
+) -> Result<ImageSummary, ImageRefusal> {
     let file = fs::open(rt, path)?;
     let mut reader = BufReader::with_capacity(rt.alloc(), AT_ONCE, file)?;
-    let index = index_image(rt.alloc(), &mut reader)?;
-    ImageSummary::of(&index)
+    let index = index_image(rt.alloc(), most_block(profile), &mut reader)?;
+    ImageSummary::of(profile, &index)
 }
 
 /// Writes the line of one volume, and counts it.

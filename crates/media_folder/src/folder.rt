@@ -128,7 +128,15 @@ pub(crate) fn read_library<'a, R: AllocGlobal + Files<File = File>, E: Write>(
     let profile = decide_profile(&wanted.profile, profile_before)?;
     let mut protect = Vec::new(rt.alloc());
     protect.extend_from_slice(wanted_protected(kept))?;
-    let found = read_volumes(rt, folder, protect, volume_size, memory, errors)?;
+    let found = read_volumes(
+        rt,
+        folder,
+        profile.profile(),
+        protect,
+        volume_size,
+        memory,
+        errors,
+    )?;
     if found.is_nothing_served() {
         return Err(FolderFault::NothingServed(String::from_str(rt.alloc(), folder)?));
     }

@@ -18,6 +18,7 @@ use crate::rights::{NEW_FILE, is_open_to_others, is_write_protected};
 use crate::seen::SeenFiles;
 use crate::store::FileStore;
 use library_inventory::{Element, PlacedVolume};
+use scsi_cdb::Profile;
 use std::alloc::{AllocError, Global};
 use std::fs::{self, File, Files, OpenOptions};
 use std::io::{self, Write};
@@ -46,12 +47,19 @@ pub(crate) struct FoundVolumes<'a, R: Files<File = File>> {
     /// The tags of those that are write-protected from now on, whatever the modes of their files.
     protect: Vec<VolumeTag>,
     seen: SeenFiles,
+    /// The profile of the library, whose tapes they are.
+    profile: Profile,
     /// The run of the machine in which they were read.
     boot: BootId,
 }
 
 impl<'a, R: Files<File = File>> FoundVolumes<'a, R> {
-    pub fn new(alloc: Global, boot: BootId, protect: Vec<VolumeTag>) -> FoundVolumes<'a, R>
+    pub fn new(
+        alloc: Global,
+        boot: BootId,
+        profile: Profile,
+        protect: Vec<VolumeTag>,
+    ) -> FoundVolumes<'a, R>
         ensures { result.volumes.items ≡ [] }
     {
         FoundVolumes {
@@ -60,6 +68,7 @@ impl<'a, R: Files<File = File>> FoundVolumes<'a, R> {
             is_open: false,
             protect,
             seen: SeenFiles::new(alloc),
+            profile,
             boot,
         }
     }
@@ -84,12 +93,13 @@ impl<'a, R: Files<File = File>> FoundVolumes<'a, R> {
     }
 }
 
-/// Reads the files of a folder's volumes, each for `volume_size` bytes of blocks, or for those that it has where these are more, which take
-/// no more memory together than the limit says. Those with the tags of `protect` are write-protected. A volume whose file can't be served
-/// is reported and left out.
+/// Reads the files of a folder's volumes, of a library of a profile, each for `volume_size` bytes of blocks, or for those that it has where
+/// these are more, which take no more memory together than the limit says. Those with the tags of `protect` are write-protected. A volume
+/// whose file can't be served is reported and left out.
 pub(crate) fn read_volumes<'a, R: AllocGlobal + Files<File = File>, E: Write>(
     rt: &'a R,
     folder: &str,
+    profile: Profile,
     protect: Vec<VolumeTag>,
     volume_size: u64,
     memory: &MemoryLimit,
@@ -100,7 +110,7 @@ pub(crate) fn read_volumes<'a, R: AllocGlobal + Files<File = File>, E: Write>(
     ensures { IfOk result (λ found. AreRead folder.now found.volumes.items) }
 {
     let tags = list_volumes(rt, folder, errors)?;
-    let mut found = FoundVolumes::new(rt.alloc(), BootId::now(rt), protect);
+    let mut found = FoundVolumes::new(rt.alloc(), BootId::now(rt), profile, protect);
     find_volumes(rt, folder, &tags, volume_size, memory, &mut found, errors)?;
     Ok(found)
 }
@@ -177,7 +187,15 @@ fn read_unseen<'a, R: AllocGlobal + Files<File = File>, E: Write>(
         tag,
         is_protected: is_wanted || is_write_protected(mode),
     };
-    read_volume(rt, file, found.boot, volume_size, memory.share()?, errors)
+    read_volume(
+        rt,
+        file,
+        found.boot,
+        found.profile,
+        volume_size,
+        memory.share()?,
+        errors,
+    )
 }
 
 /// Makes the files of volumes that are blank.

@@ -103,6 +103,7 @@ fn plan_new<R: AllocGlobal + Files<File = File>>(
     let found: FoundVolumes<'_, R> = FoundVolumes::new(
         rt.alloc(),
         BootId::Unknown,
+        profile.profile(),
         Vec::new(rt.alloc()),
     );
     let least = least_volumes(&wanted.given, None);

@@ -10,15 +10,16 @@ use crate::refusal::ImageRefusal;
 use crate::size::{bytes_of_blocks, capacity_for};
 use crate::store::{FileAccess, FileStore};
 use crate::trust::{Trust, trust_in};
+use scsi_cdb::Profile;
 use std::alloc::Global;
 use std::fs::{self, File, Files, OpenFile, OpenOptions};
 use std::io::{self, BufReader, ErrorKind, Read, Seek, SeekFrom, Take, Write};
 use tape_flush::{ImageEnds, ReadTape, ReadTapeFault, image_ends, read_tape};
 use tape_image::{IndexFault, index_image};
-use tape_medium::{MAX_BLOCK, MemoryLimit, Volume, VolumeTag};
+use tape_medium::{MemoryLimit, Volume, VolumeTag, most_block};
 
-/// How many bytes of a file are read at once: more than the longest block takes.
-pub(crate) const AT_ONCE: usize = 2 * MAX_BLOCK as usize;
+/// How many bytes of a file are read at once.
+pub(crate) const AT_ONCE: usize = 131_072;
 
 /// A volume as its file was read, with what is needed to write on that.
 #[derive(Drop)]
@@ -37,12 +38,13 @@ pub(crate) struct VolumeFile<'a> {
     pub is_protected: bool,
 }
 
-/// Reads the file of a volume, as far as its record lets it be read in this run of the machine, for `volume_size` bytes of blocks, or for
-/// those that it has where these are more, which take no more memory than the limit says.
+/// Reads the file of a volume of a library of a profile, as far as its record lets it be read in this run of the machine, for `volume_size`
+/// bytes of blocks, or for those that it has where these are more, which take no more memory than the limit says.
 pub(crate) fn read_volume<'a, R: AllocGlobal + Files<File = File>, E: Write>(
     rt: &'a R,
     file: VolumeFile<'_>,
     boot: BootId,
+    profile: Profile,
     volume_size: u64,
     memory: MemoryLimit,
     errors: &mut E,
@@ -58,6 +60,7 @@ pub(crate) fn read_volume<'a, R: AllocGlobal + Files<File = File>, E: Write>(
     let trust = trust_in(rt, &store, boot, errors)?;
     let ReadTape { tape, index } = read_file(
         rt.alloc(),
+        profile,
         store.file(),
         trust.read,
         volume_size,
@@ -138,6 +141,7 @@ fn is_closed(kind: ErrorKind) -> bool {
 /// Reads so many bytes of a file as a tape.
 fn read_file(
     alloc: Global,
+    profile: Profile,
     file: &File,
     count: u64,
     volume_size: u64,
@@ -146,22 +150,37 @@ fn read_file(
     requires some { 0 < volume_size }
     requires within { volume_size ≤ capacity_limit }
 {
-    let held = held_in(alloc, file, count, volume_size)?;
+    let held = held_in(alloc, profile, file, count, volume_size)?;
     let mut reader = from_front(alloc, file, count)?;
-    read_tape(alloc, &mut reader, capacity_for(volume_size, held), memory)
+    read_tape(
+        alloc,
+        profile,
+        &mut reader,
+        capacity_for(volume_size, held),
+        memory,
+    )
 }
 
 /// How many bytes of blocks so many bytes of a file have, if they can have more than `volume_size`, and else as many as that at most.
-fn held_in(alloc: Global, file: &File, count: u64, volume_size: u64) -> Result<u64, ReadTapeFault> {
+fn held_in(
+    alloc: Global,
+    profile: Profile,
+    file: &File,
+    count: u64,
+    volume_size: u64,
+) -> Result<u64, ReadTapeFault> {
     if count <= volume_size {
         return Ok(count);
     }
     let mut reader = from_front(alloc, file, count)?;
-    match index_image(alloc, &mut reader) {
+    match index_image(alloc, most_block(profile), &mut reader) {
         Ok(index) => Ok(bytes_of_blocks(&index.objects)),
         Err(IndexFault::NoMemory) => Err(ReadTapeFault::NoMemory),
         Err(IndexFault::Read) => Err(ReadTapeFault::Read),
         Err(IndexFault::PastLastOffset) => Err(ReadTapeFault::PastLastOffset),
+        Err(IndexFault::TooLong { objects, whole }) => {
+            Err(ReadTapeFault::TooLong { objects, whole })
+        }
     }
 }
 

@@ -30,6 +30,15 @@ pub(crate) enum ImageRefusal {
     },
 }
 
+/// A block that is longer than those of the library's profile.
+fn too_long(objects: u64, whole: u64) -> ImageRefusal {
+    ImageRefusal::Faulty {
+        fault: ImageFault::TooLong,
+        objects,
+        whole,
+    }
+}
+
 impl From<AllocError> for ImageRefusal {
     fn from(_error: AllocError) -> ImageRefusal {
         ImageRefusal::NoMemory
@@ -57,6 +66,7 @@ impl From<ReadTapeFault> for ImageRefusal {
             ReadTapeFault::NoMemory => ImageRefusal::NoMemory,
             ReadTapeFault::Read | ReadTapeFault::PastLastOffset => ImageRefusal::CannotRead,
             ReadTapeFault::TooLarge { objects } => ImageRefusal::TooLarge { objects },
+            ReadTapeFault::TooLong { objects, whole } => too_long(objects, whole),
         }
     }
 }
@@ -66,6 +76,7 @@ impl From<IndexFault> for ImageRefusal {
         match fault {
             IndexFault::NoMemory => ImageRefusal::NoMemory,
             IndexFault::Read | IndexFault::PastLastOffset => ImageRefusal::CannotRead,
+            IndexFault::TooLong { objects, whole } => too_long(objects, whole),
         }
     }
 }

@@ -2,9 +2,10 @@
 
 use crate::refusal::ImageRefusal;
 use crate::size::{bytes_of_blocks, size_of};
+use scsi_cdb::Profile;
 use std::fmt;
 use tape_image::{ImageEnd, ImageIndex, IndexedObject};
-use tape_medium::{MAX_CAPACITY, MAX_OBJECTS};
+use tape_medium::{MAX_CAPACITY, most_objects};
 
 /// What an image without a fault holds.
 #[derive(Clone, Copy)]
@@ -19,11 +20,11 @@ pub(crate) struct ImageSummary {
 }
 
 impl ImageSummary {
-    /// Of an image by its index: one with a fault has none, nor one with more than a tape takes.
-    pub fn of(index: &ImageIndex) -> Result<ImageSummary, ImageRefusal> {
-        let taken = taken_of(&index.objects);
+    /// Of an image by its index: one with a fault has none, nor one with more than a tape of a library of the profile takes.
+    pub fn of(profile: Profile, index: &ImageIndex) -> Result<ImageSummary, ImageRefusal> {
+        let taken = taken_of(profile, &index.objects);
         if taken < index.objects.len() {
-            let objects = u32::try_from(taken).unwrap_or(MAX_OBJECTS);
+            let objects = u32::try_from(taken).unwrap_or(most_objects(profile));
             return Err(ImageRefusal::TooLarge { objects });
         }
         let lost = match index.end {
@@ -79,11 +80,11 @@ fn marks_in(objects: &[IndexedObject]) -> usize {
 }
 
 /// How many of the first objects a tape takes, by their number and by the bytes of blocks.
-fn taken_of(objects: &[IndexedObject]) -> usize {
+fn taken_of(profile: Profile, objects: &[IndexedObject]) -> usize {
     let mut held = 0u64;
     'objects: for (index, object) in objects.iter().enumerate() {
         held = held.saturating_add(size_of(object));
-        if held > MAX_CAPACITY || index >= MAX_OBJECTS as usize {
+        if held > MAX_CAPACITY || index >= most_objects(profile) as usize {
             return index;
         }
     }

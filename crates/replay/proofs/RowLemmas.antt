@@ -6,7 +6,7 @@ use Rattle.hex.specs.Hex.{encode_with}
 use Rattle.tape_medium.specs.Elements.{empty_elements}
 use Rattle.audit_log.specs.Lines.{line_of}
 use Rattle.device_server.specs.HostChanger.{spec_changer}
-use Rattle.device_server.specs.View.{Changer}
+use Rattle.device_server.specs.View.{Changer, profile_of}
 use Rattle.logical_unit.specs.Step.{made, resets, event_reply}
 use Rattle.target_core.specs.declared.event.Event.TheVariants as event
 use Rattle.explanations.specs.Explanation.{explanation}
@@ -44,7 +44,7 @@ faults_in_order = record {
 }
 
 ran : HasRun 2 (Some (line (codes "reset 0"))) (Some []) (target []) (target (reset ∷ []))
-unfolding events_in line_in pieces unit_in
+unfolding events_in line_in pieces unit_in profile_of
 ran = record {
   input = line (codes "reset 0");
   events = event.Reset 0 ∷ [];
@@ -55,5 +55,5 @@ ran = record {
 }
 
 pub replays_run : ReplaysRun
-unfolding ran events_in line_in pieces unit_in digits padded_integral char_count answer_line explanation line_of encode_with
+unfolding ran events_in line_in pieces unit_in profile_of digits padded_integral char_count answer_line explanation line_of encode_with
 replays_run = record { replies = record { ran = ran; lines = refl }; explained = record { ran = ran; lines = refl }; records = record { ran = ran; lines = refl }; refused = record { input = line (codes "reset 0") ++ codes "reset x"; whole = record { consumed = refl; ended = refl; bounded = lit≤ tt }; script = refl } }

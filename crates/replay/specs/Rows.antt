@@ -1,5 +1,6 @@
 -- Worked rows: what a replay of one reset writes, and what each fault says.
 use Rattle.std.specs.Prelude.{◌≡◌, ℕ, List, [], ◌∷◌, ◌++◌, Some, None, codes}
+use Rattle.scsi_cdb.specs.declared.profile.Profile.TheVariants.{Spec}
 use Rattle.scsi_sense.specs.declared.status.Status.TheVariants.{Good}
 use Rattle.tape_medium.specs.Elements.{empty_elements}
 use Rattle.audit_log.specs.declared.act.Act.TheVariants.{Reset}
@@ -63,4 +64,4 @@ pub record ReplaysRun : Type 0 where
   pub replies : ReplaysReset words.Off Off (line (codes "00 - -"))
   pub explained : ReplaysReset words.On Off (line (codes "00 - -") ++ line (codes "# GOOD"))
   pub records : ReplaysReset words.Off Lines (line (codes "00 - -") ++ line (codes "1 - RESET 6 - - 00"))
-  pub refused : Refuses 2 (Some (line (codes "reset 0") ++ codes "reset x")) (Some []) 2 BadUnit
+  pub refused : Refuses Spec 2 (Some (line (codes "reset 0") ++ codes "reset x")) (Some []) 2 BadUnit

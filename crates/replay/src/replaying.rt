@@ -1,6 +1,7 @@
 ghost use Rattle.std.specs.Prelude.{◌≡◌, ◌⊎◌, ◌++◌, ℕ, List, Err, IfErr, IsOk, OnOk};
 ghost use Rattle.std.specs.Io.KnownBytes.{Appends, Keeps};
 ghost use Rattle.replay.specs.Replay.{HasRun, IsBeforeOutput, IsBeforeRun, Refuses, Replays};
+ghost use Rattle.target_core.specs.Faults.{profile_in};
 ghost use Rattle.target_core.specs.Run.{Runs};
 ghost use Rattle.judgement.specs.declared.reply.Reply.{Reply};
 ghost use Rattle.logical_unit.specs.UnitView.{units_of};
@@ -39,7 +40,7 @@ pub fn replay<D: DeviceServer, R: Read, W: Write>(
         (Replays turns (R.remaining reader.old) (R.remaining reader.new) (units_of core.old) (units_of core.new)
         explanations audit (W.contents writer.old) (W.contents writer.new)) }
     ensures line { (n : ℕ) (f : LineFault) → result ≡ Err (ReplayFault.Line n f) →
-        Refuses turns (R.remaining reader.old) (R.remaining reader.new) n f }
+        Refuses (profile_in (units_of core.old)) turns (R.remaining reader.old) (R.remaining reader.new) n f }
     ensures write { result ≡ Err ReplayFault.Write →
         HasRun turns (R.remaining reader.old) (R.remaining reader.new) (units_of core.old) (units_of core.new) }
 
@@ -51,11 +52,11 @@ pub fn replay<D: DeviceServer, R: Read, W: Write>(
         IsBeforeOutput fault → Keeps (W.contents writer.old) (W.contents writer.new)) }
 {
     let input = read_all(alloc, reader, turns)?;
-    let events = events_of(alloc, &input)?;
+    let profile = core.profile();
+    let events = events_of(alloc, profile, &input)?;
     // The events hold all that is wanted of it.
     drop(input);
     let mut text = Vec::new(alloc);
-    let profile = core.profile();
     run(alloc, core, events, explanations, profile, &mut text)?;
     let records = audit_text(alloc, audit, core.all())?;
     match write_both(writer, &text, records.as_bytes()) {

@@ -3,7 +3,7 @@ use Rattle.std.specs.Prelude.{◌≡◌, ◌<◌, ℕ, Bool, false, List, length
 use Rattle.std.specs.Option.{option_map_or}
 use Rattle.tape_medium.specs.declared.volume.VolumeTag.{VolumeTag}
 use Rattle.tickets.specs.declared.ticket.Ticket.{Ticket}
-use Rattle.tape_keeper.specs.declared.keeper.GoodCommand.{GoodCommand}
+use Rattle.tape_keeper.specs.declared.keeper.CarriedOutCommand.{CarriedOutCommand}
 use Rattle.library_inventory.specs.Tags.{same_tag}
 use Rattle.saved_media.specs.Items.{number_of, numbered}
 use Rattle.saved_media.specs.Seen.{SeenImage}
@@ -66,7 +66,7 @@ IsOfMove images None asked = IsOfItem images Inventory asked
 IsOfMove images (Some tag) asked = IsOfMoved images (place_of images tag) asked
 
 -- what the reply to a command waits for, if it waits, where this is to be kept of the command
-abbrev pub WaitsFor : List SeenImage → GoodCommand → Wish → Option Ticket → Type 0
+abbrev pub WaitsFor : List SeenImage → CarriedOutCommand → Wish → Option Ticket → Type 0
 WaitsFor images command Nothing waits = waits ≡ None
 WaitsFor images command Behind waits = IfSome waits (IsOfItem images (Backlog command.lun))
 WaitsFor images command Volume waits = IsSomeAnd waits (IsOfVolume images command.volume)

@@ -4,7 +4,7 @@ use Rattle.std.specs.Prelude.{ℕ, Bool, true, false, List, [], ◌∷◌, Optio
 use Rattle.scsi_cdb.specs.declared.classes.Class.{Class}
 use Rattle.tape_medium.specs.declared.volume.VolumeTag.{VolumeTag}
 use Rattle.tickets.specs.declared.ticket.Ticket.{Ticket}
-use Rattle.tape_keeper.specs.declared.keeper.GoodCommand.{GoodCommand}
+use Rattle.tape_keeper.specs.declared.keeper.CarriedOutCommand.{CarriedOutCommand}
 use Rattle.library_inventory.specs.Tags.{tag_of}
 use Rattle.saved_media.specs.Saving.{WaitsFor}
 use Rattle.saved_media.specs.Seen.{SeenImage}
@@ -17,7 +17,7 @@ abbrev pub four_images : List SeenImage
 four_images = image 1 false ∷ image 2 true ∷ image 2 false ∷ image 3 false ∷ []
 
 -- a command at the drive with LUN 1
-abbrev pub command : Class → (is_immediate : Bool) → Option VolumeTag → GoodCommand
+abbrev pub command : Class → (is_immediate : Bool) → Option VolumeTag → CarriedOutCommand
 command class is_immediate volume = record { lun = 1; class = class; is_immediate = is_immediate; volume = volume; length = 512 }
 
 -- a command with IMMED, or without it

@@ -21,7 +21,8 @@ use std::sync::{Mutex, Wait};
 use std::time::{Clock, Instant};
 use tape_flush::ImageStore;
 use tape_keeper::{
-    GoodCommand, KeepChange, KeepEvent, KeepFault, KeepListener, KeepPlace, SavedThing, TapeSource,
+    CarriedOutCommand, KeepChange, KeepEvent, KeepFault, KeepListener, KeepPlace, SavedThing,
+    TapeSource,
 };
 use tape_medium::VolumeTag;
 use tickets::{Outcome, Ticket};
@@ -110,7 +111,7 @@ impl<S: ImageStore + Drop, N: InventoryStore + Drop> MediaKeeper<S, N> {
         &self,
         rt: &R,
         listener: &H,
-        command: GoodCommand,
+        command: CarriedOutCommand,
     ) -> Ticket
         ensures { IsOfVolume self.now command.volume result }
     {
@@ -148,7 +149,7 @@ impl<S: ImageStore + Drop, N: InventoryStore + Drop> MediaKeeper<S, N> {
         &self,
         rt: &R,
         listener: &H,
-        command: GoodCommand,
+        command: CarriedOutCommand,
     ) -> Ticket
         ensures { IsOfMove self.now command.volume result }
     {
@@ -321,13 +322,13 @@ impl<S: ImageStore + Drop, N: InventoryStore + Drop> MediaKeeper<S, N> {
     ghost use Rattle.tickets.specs.declared.ticket.Outcome.TheVariants as outcome;
     ghost use Rattle.saved_media.specs.Wishes.{wish_of, is_waited_for};
 
-    /// Begins to keep what a command left that ended GOOD, and gives the ticket that its reply has to wait for, if it has to wait. This waits for
-    /// nothing but locks that are held for a moment.
+    /// Begins to keep what a command left that was carried out, and gives the ticket that its reply has to wait for, if it has to wait.
+    /// This waits for nothing but locks that are held for a moment.
     pub fn begin<R: Wait, H: KeepListener>(
         &self,
         rt: &R,
         listener: &H,
-        command: GoodCommand,
+        command: CarriedOutCommand,
     ) -> Option<Ticket>
         ensures waits_for { WaitsFor self.now command (wish_of command.class command.is_immediate) result }
         ensures waits { command.is_immediate ≡ false → is_waited_for (wish_of command.class false) ≡ true → is_some result ≡ true }

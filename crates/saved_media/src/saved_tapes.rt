@@ -7,7 +7,7 @@ use std::alloc::Global;
 use std::sync::Wait;
 use std::time::Clock;
 use tape_flush::ImageStore;
-use tape_keeper::{GoodCommand, KeepListener, KeepPlace, TapeKeeper, TapeSource};
+use tape_keeper::{CarriedOutCommand, KeepListener, KeepPlace, TapeKeeper, TapeSource};
 use tickets::{Outcome, Ticket};
 
 /// The tapes of a library, and the keeper that keeps them.
@@ -28,7 +28,7 @@ impl<'a, S: ImageStore + Drop, N: InventoryStore + Drop, T: TapeSource<Device>> 
         &self,
         rt: &R,
         listener: &H,
-        command: GoodCommand,
+        command: CarriedOutCommand,
     ) -> Option<Ticket> {
         self.keeper.begin(rt, listener, command)
     }

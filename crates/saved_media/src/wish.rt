@@ -3,7 +3,7 @@ ghost use Rattle.saved_media.specs.Wishes.{wish_of};
 
 use scsi_cdb::Class;
 
-/// What is to be kept of a command that ended GOOD.
+/// What is to be kept of a command that was carried out.
 #[derive(Clone, Copy)]
 pub(crate) enum Wish {
     Nothing,

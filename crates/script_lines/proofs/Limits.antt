@@ -4,6 +4,7 @@ use Rattle.std.specs.Prelude.{All, codes}
 use Rattle.std.specs.Str.{bytes_eq}
 use Rattle.std.proofs.lemmas.Bool.{and_parts, ltb-true, leb-true}
 use Rattle.std.proofs.lemmas.List.Elements.{All-nil, All-cons}
+use Rattle.scsi_cdb.specs.declared.profile.Profile.{Profile}
 use Rattle.hex.specs.Hex.{decode_of}
 use Rattle.script_input.specs.declared.line_fault.LineFault.{LineFault}
 use Rattle.script_input.specs.declared.line_fault.LineFault.TheVariants.{BadHex, TooLong}
@@ -55,58 +56,58 @@ hex_sized : (limit : ℕ) (word : List ℕ) → Reads (IsSized limit) (hex_in li
 unfolding hex_in
 hex_sized limit word = sized_by limit (hex_bytes (decode_of word))
 
-at_most_by : (r : Result (List ℕ) LineFault) → Reads (IsSized command_data_limit) r → Reads (λ bytes. length bytes ≤ command_data_limit) r
-at_most_by (Ok bytes) h = h.1
-at_most_by (Err e) h = tt
+at_most_by : (pr : Profile) (r : Result (List ℕ) LineFault) → Reads (IsSized (command_data_limit pr)) r → Reads (λ bytes. length bytes ≤ (command_data_limit pr)) r
+at_most_by pr (Ok bytes) h = h.1
+at_most_by pr (Err e) h = tt
 
-data_at_most : (word : Option (List ℕ)) → Reads (λ bytes. length bytes ≤ command_data_limit) (bytes_in word)
-data_at_most None = omega arith
-data_at_most (Some word) = at_most_by (hex_in command_data_limit word) (hex_sized command_data_limit word)
+data_at_most : (pr : Profile) (word : Option (List ℕ)) → Reads (λ bytes. length bytes ≤ (command_data_limit pr)) (bytes_in pr word)
+data_at_most pr None = omega arith
+data_at_most pr (Some word) = at_most_by pr (hex_in (command_data_limit pr) word) (hex_sized (command_data_limit pr) word)
 
-command_within : (words : Option CommandWords) → Reads IsWithinLimits (command_request_in words)
-command_within None = tt
-command_within (Some w) =
-    reads_then (λ lun. Unit {0}) IsWithinLimits (unit_in w.lun) _ (reads_any (unit_in w.lun))
-    (λ lun any. reads_then (IsSized 16) IsWithinLimits (hex_in 16 w.cdb) _ (hex_sized 16 w.cdb)
-    (λ cdb sized. reads_then (λ bytes. length bytes ≤ command_data_limit) IsWithinLimits (bytes_in w.bytes) _ (data_at_most w.bytes)
+command_within : (pr : Profile) (words : Option CommandWords) → Reads (IsWithinLimits pr) (command_request_in pr words)
+command_within pr None = tt
+command_within pr (Some w) =
+    reads_then (λ lun. Unit {0}) (IsWithinLimits pr) (unit_in w.lun) _ (reads_any (unit_in w.lun))
+    (λ lun any. reads_then (IsSized 16) (IsWithinLimits pr) (hex_in 16 w.cdb) _ (hex_sized 16 w.cdb)
+    (λ cdb sized. reads_then (λ bytes. length bytes ≤ (command_data_limit pr)) (IsWithinLimits pr) (bytes_in pr w.bytes) _ (data_at_most pr w.bytes)
     (λ bytes short. (sized.0, sized.1, short))))
 
-reset_within : (words : List (List ℕ)) → Reads IsWithinLimits (reset_request_in words)
-reset_within words = reads_then (λ lun. Unit {0}) IsWithinLimits (sole_unit_in words) _ (reads_any (sole_unit_in words)) (λ lun any. tt)
+reset_within : (pr : Profile) (words : List (List ℕ)) → Reads (IsWithinLimits pr) (reset_request_in words)
+reset_within pr words = reads_then (λ lun. Unit {0}) (IsWithinLimits pr) (sole_unit_in words) _ (reads_any (sole_unit_in words)) (λ lun any. tt)
 
-request_within : (words : List (List ℕ)) → Reads IsWithinLimits (request_in words)
-request_within [] = tt
-request_within (first ∷ words) =
-    reads_either IsWithinLimits (bytes_eq first (codes "reset")) (reset_request_in words)
-    (command_request_in (words_in ([] ∷ first ∷ words)))
-    (reset_within words) (command_within (words_in ([] ∷ first ∷ words)))
+request_within : (pr : Profile) (words : List (List ℕ)) → Reads (IsWithinLimits pr) (request_in pr words)
+request_within pr [] = tt
+request_within pr (first ∷ words) =
+    reads_either (IsWithinLimits pr) (bytes_eq first (codes "reset")) (reset_request_in words)
+    (command_request_in pr (words_in ([] ∷ first ∷ words)))
+    (reset_within pr words) (command_within pr (words_in ([] ∷ first ∷ words)))
 
-some_within : (r : Result ClientRequestValue LineFault) → Reads IsWithinLimits r → Reads (Has IsWithinLimits) (some_said r)
-some_within (Ok x) h = h
-some_within (Err e) h = tt
+some_within : (pr : Profile) (r : Result ClientRequestValue LineFault) → Reads (IsWithinLimits pr) r → Reads (Has (IsWithinLimits pr)) (some_said r)
+some_within pr (Ok x) h = h
+some_within pr (Err e) h = tt
 
-line_within : (line : List ℕ) → Reads (Has IsWithinLimits) (request_line_in line)
+line_within : (pr : Profile) (line : List ℕ) → Reads (Has (IsWithinLimits pr)) (request_line_in pr line)
 unfolding request_line_in
-line_within line =
-    reads_either (Has IsWithinLimits) (ltb line_limit (length line)) (Err TooLong) _ tt
-    (reads_either (Has IsWithinLimits) (eqb (length line) 0) (Ok None) _ tt
-    (reads_either (Has IsWithinLimits) (eqb (get_or line 0 0) 35) (Ok None) _ tt
-    (some_within (request_in (pieces 32 line)) (request_within (pieces 32 line)))))
+line_within pr line =
+    reads_either (Has (IsWithinLimits pr)) (ltb (line_limit pr) (length line)) (Err TooLong) _ tt
+    (reads_either (Has (IsWithinLimits pr)) (eqb (length line) 0) (Ok None) _ tt
+    (reads_either (Has (IsWithinLimits pr)) (eqb (get_or line 0 0) 35) (Ok None) _ tt
+    (some_within pr (request_in pr (pieces 32 line)) (request_within pr (pieces 32 line)))))
 
-one_line : (n : ℕ) (read : Result (Option ClientRequestValue) LineFault) (others : Result (List ClientRequestValue) (ℕ × LineFault)) → Reads
-    (Has IsWithinLimits) read
-    → Reads (All IsWithinLimits) others → Reads (All IsWithinLimits) (by_line n read others)
-one_line n (Err fault) others one more = tt
-one_line n (Ok None) others one more = more
-one_line n (Ok (Some said)) (Ok saids) one more = All-cons IsWithinLimits said saids one more
-one_line n (Ok (Some said)) (Err e) one more = tt
+one_line : (pr : Profile) (n : ℕ) (read : Result (Option ClientRequestValue) LineFault) (others : Result (List ClientRequestValue) (ℕ × LineFault)) → Reads
+    (Has (IsWithinLimits pr)) read
+    → Reads (All (IsWithinLimits pr)) others → Reads (All (IsWithinLimits pr)) (by_line n read others)
+one_line pr n (Err fault) others one more = tt
+one_line pr n (Ok None) others one more = more
+one_line pr n (Ok (Some said)) (Ok saids) one more = All-cons (IsWithinLimits pr) said saids one more
+one_line pr n (Ok (Some said)) (Err e) one more = tt
 
-lines_within : (n : ℕ) (lines : List (List ℕ)) → Reads (All IsWithinLimits) (lines_in request_line_in n lines)
-lines_within n [] = All-nil IsWithinLimits
-lines_within n (line ∷ lines) =
-    one_line n (request_line_in line) (lines_in request_line_in (n + 1) lines) (line_within line) (lines_within (n + 1) lines)
+lines_within : (pr : Profile) (n : ℕ) (lines : List (List ℕ)) → Reads (All (IsWithinLimits pr)) (lines_in (request_line_in pr) n lines)
+lines_within pr n [] = All-nil (IsWithinLimits pr)
+lines_within pr n (line ∷ lines) =
+    one_line pr n (request_line_in pr line) (lines_in (request_line_in pr) (n + 1) lines) (line_within pr line) (lines_within pr (n + 1) lines)
 
 -- each request of a script
-pub requests_within : (text : List ℕ) (requests : List ClientRequestValue) → lines_in request_line_in 1 (pieces 10 text) ≡ Ok requests → All
-    IsWithinLimits requests
-requests_within text requests read = subst (Reads (All IsWithinLimits)) read (lines_within 1 (pieces 10 text))
+pub requests_within : (pr : Profile) (text : List ℕ) (requests : List ClientRequestValue) → lines_in (request_line_in pr) 1 (pieces 10 text) ≡ Ok requests → All
+    (IsWithinLimits pr) requests
+requests_within pr text requests read = subst (Reads (All (IsWithinLimits pr))) read (lines_within pr 1 (pieces 10 text))

@@ -25,6 +25,7 @@ pub line_faults : LineFaults
 unfolding line_in pieces nexus_in unit_in hex_in decode_pairs
 line_faults = record {
   too_long = λ line h. rw h refl;
+  too_long_for_hosts = λ line h. rw h refl;
   one_word = refl;
   two_words = refl;
   five_words = refl;
@@ -71,6 +72,7 @@ requests_read = record {
   with_data = refl;
   reset = refl;
   too_long = λ line h. rw h refl;
+  too_long_for_hosts = λ line h. rw h refl;
   one_word = refl;
   four_words = refl;
   bare_reset = refl;

@@ -1,4 +1,4 @@
--- A line of a script: an event, or nothing, or its first fault.
+-- A line of a script for a library of a profile: an event, or nothing, or its first fault.
 use Rattle.std.specs.Prelude.{ℕ, ◌==◌, nat_lt, List, [], ◌∷◌, length, slice_index, Option, Some, None, Result, Ok, Err, if◌then◌else◌, codes}
 use Rattle.std.specs.Str.{bytes_eq}
 use Rattle.std.specs.Option.{option_map}
@@ -9,6 +9,7 @@ use Rattle.script_input.specs.declared.line_fault.LineFault.TheVariants.{TooLong
 use Rattle.target_core.specs.declared.event.Event.{Event}
 use Rattle.target_core.specs.declared.event.Event.TheVariants as event
 use Rattle.frames.specs.Limits.{command_data_limit}
+use Rattle.scsi_cdb.specs.declared.profile.Profile.{Profile}
 use Rattle.scsi_nexus.specs.declared.nexus.Nexus.{Nexus}
 use Rattle.script_lines.specs.Limits.{line_limit}
 use Rattle.script_lines.specs.Text.{pieces}
@@ -51,18 +52,18 @@ abbrev pub ◌>>=◌ : {A B : Type 0} → Result A LineFault → (A → Result B
 (Ok x) >>= f = f x
 (Err e) >>= f = Err e
 
-abbrev pub bytes_in : Option (List ℕ) → Result (List ℕ) LineFault
-bytes_in None = Ok []
-bytes_in (Some word) = hex_in command_data_limit word
+abbrev pub bytes_in : Profile → Option (List ℕ) → Result (List ℕ) LineFault
+bytes_in profile None = Ok []
+bytes_in profile (Some word) = hex_in (command_data_limit profile) word
 
 -- the command of the words, tested in their order
-abbrev pub command_in : Option CommandWords → Result Said LineFault
-command_in None = Err WordCount
-command_in (Some w) = do
+abbrev pub command_in : Profile → Option CommandWords → Result Said LineFault
+command_in profile None = Err WordCount
+command_in profile (Some w) = do
   nexus ← nexus_in w.nexus
   lun ← unit_in w.lun
   cdb ← hex_in 16 w.cdb
-  bytes ← bytes_in w.bytes
+  bytes ← bytes_in profile w.bytes
   Ok (Command nexus lun cdb bytes)
 
 -- behind the word loss: SAS.PORT LUN
@@ -83,25 +84,29 @@ reset_in words = do
   lun ← sole_unit_in words
   Ok (Reset lun)
 
+-- behind the word loss, or behind reset
+abbrev pub other_in : (first : List ℕ) → List (List ℕ) → Result Said LineFault
+other_in first words = if bytes_eq first (codes "loss") then loss_in words else reset_in words
+
 -- the first word, exactly loss or reset, fixes the form of the line
-abbrev pub event_in : List (List ℕ) → Result Said LineFault
-event_in [] = Err WordCount
-event_in (first ∷ words) =
+abbrev pub event_in : Profile → List (List ℕ) → Result Said LineFault
+event_in profile [] = Err WordCount
+event_in profile (first ∷ words) =
     if bytes_eq first (codes "loss") then loss_in words
     else if bytes_eq first (codes "reset") then reset_in words
-    else command_in (words_in (first ∷ words))
+    else command_in profile (words_in (first ∷ words))
 
 abbrev pub some_said : {A : Type 0} → Result A LineFault → Result (Option A) LineFault
 some_said read = read >>= λ e. Ok (Some e)
 
 -- what a line says by its words: nothing, where it is empty or begins with #
-abbrev pub line_by : {A : Type 0} → (List (List ℕ) → Result A LineFault) → List ℕ → Result (Option A) LineFault
-line_by words_say line =
-    if nat_lt line_limit (length line) then Err TooLong
+abbrev pub line_by : {A : Type 0} → Profile → (List (List ℕ) → Result A LineFault) → List ℕ → Result (Option A) LineFault
+line_by profile words_say line =
+    if nat_lt (line_limit profile) (length line) then Err TooLong
     else if length line == 0 then Ok None
     else if slice_index line 0 == 35 then Ok None
     else some_said (words_say (pieces 32 line))
 
 -- what a line of a replay's script says
-unfoldable pub line_in : List ℕ → Result (Option Said) LineFault
-line_in line = line_by event_in line
+unfoldable pub line_in : Profile → List ℕ → Result (Option Said) LineFault
+line_in profile line = line_by profile (event_in profile) line

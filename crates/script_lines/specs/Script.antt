@@ -1,6 +1,7 @@
--- A script: the events or requests of its lines, or its first line with a fault.
+-- A script for a library of a profile: the events or requests of its lines, or its first line with a fault.
 use Rattle.std.specs.Prelude.{ℕ, ◌+◌, ◌≡◌, List, [], ◌∷◌, ◌++◌, map, Option, Some, None, Result, Ok, Err}
 use Rattle.std.specs.Global.{Vec}
+use Rattle.scsi_cdb.specs.declared.profile.Profile.{Profile}
 use Rattle.script_input.specs.declared.line_fault.LineFault.{LineFault}
 use Rattle.script_input.specs.declared.script_fault.ScriptFault.{ScriptFault}
 use Rattle.script_input.specs.declared.script_fault.ScriptFault.TheVariants.{Line, NoMemory}
@@ -32,16 +33,16 @@ lines_in line_says n [] = Ok []
 lines_in line_says n (line ∷ lines) = by_line n (line_says line) (lines_in line_says (n + 1) lines)
 
 -- the events of lines
-unfoldable pub events_in : ℕ → List (List ℕ) → Result (List Said) (ℕ × LineFault)
-events_in n lines = lines_in line_in n lines
+unfoldable pub events_in : Profile → ℕ → List (List ℕ) → Result (List Said) (ℕ × LineFault)
+events_in profile n lines = lines_in (line_in profile) n lines
 
 -- a line ends at a line feed, which the last one may lack
-abbrev pub script_in : List ℕ → Result (List Said) (ℕ × LineFault)
-script_in text = events_in 1 (pieces 10 text)
+abbrev pub script_in : Profile → List ℕ → Result (List Said) (ℕ × LineFault)
+script_in profile text = events_in profile 1 (pieces 10 text)
 
 -- a host's script
-abbrev pub requests_in : List ℕ → Result (List ClientRequestValue) (ℕ × LineFault)
-requests_in text = lines_in request_line_in 1 (pieces 10 text)
+abbrev pub requests_in : Profile → List ℕ → Result (List ClientRequestValue) (ℕ × LineFault)
+requests_in profile text = lines_in (request_line_in profile) 1 (pieces 10 text)
 
 -- what a line says, where it says something, was added
 abbrev pub TakesLine : {A : Type 0} → List A → List A → Result (Option A) LineFault → Type 0

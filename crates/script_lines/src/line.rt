@@ -1,22 +1,36 @@
-ghost use Rattle.std.specs.Prelude.{◌≡◌, ◌∷◌, ℕ, List, true, false, codes, OnOk, IfErr};
-ghost use Rattle.std.specs.Str.{bytes_eq};
+ghost use Rattle.std.specs.Prelude.{◌≡◌, ◌∷◌, ℕ, List, OnOk, IfErr};
 ghost use denote.Ref.{Bor};
 ghost use Rattle.std.specs.Option.{option_map};
+ghost use Rattle.script_lines.specs.Limits.{line_limit};
 ghost use Rattle.script_lines.specs.Words.{Gives, Fails, hex_in};
 ghost use Rattle.script_lines.specs.Text.{pieces_after};
-ghost use Rattle.script_lines.specs.Lines.{said, some_said, words_seen, words_in, bytes_in, command_in, loss_in, sole_unit_in, event_in, line_in};
+ghost use Rattle.script_lines.specs.Lines.{said, some_said, words_seen, words_in, bytes_in, command_in, loss_in, sole_unit_in, other_in, line_in};
 ghost use Rattle.script_lines.specs.Script.{TakesLine, saids};
 
 use crate::cutting::{cut, is_end};
 use crate::events::Events;
 use crate::words::{bytes_of, cdb_of, nexus_of, unit_of};
-use frames::MAX_COMMAND_DATA;
+use frames::most_command_data;
 use script_input::LineFault;
+use scsi_cdb::Profile;
 use std::alloc::{AllocError, Global};
 use target_core::Event;
 
-/// The longest line, without its line feed.
-pub const MAX_LINE: usize = 270_000;
+/// The longest line of a script for a library of the default profile, without its line feed.
+const MAX_LINE: usize = 270_000;
+
+/// The same in the hosts' profile.
+const HOSTS_MAX_LINE: usize = 2_240_000;
+
+/// The longest line of a script for a library of a profile, without its line feed.
+pub fn most_line(profile: Profile) -> usize
+    ensures { result ≡ line_limit profile }
+{
+    match profile {
+        Profile::Spec => MAX_LINE,
+        Profile::Hosts => HOSTS_MAX_LINE,
+    }
+}
 
 /// Why a line gave no event.
 #[derive(Clone, Copy)]
@@ -59,11 +73,16 @@ pub struct Words<'a> {
 /// Adds the event of a line: none for an empty one and for a comment. An event is added where it is made, since what
 /// holds it in between would be copied.
 #[tactic(auto, unfolding(crate::specs::Lines::line_in))]
-pub fn take_event(alloc: Global, events: &mut Events, line: &[u8]) -> Result<(), LineError>
-    ensures ok { OnOk result (TakesLine (saids events.old) (saids events.new) (line_in line.now)) }
-    ensures err { IfErr result (λ error. Fails error (line_in line.now)) }
+pub fn take_event(
+    alloc: Global,
+    profile: Profile,
+    events: &mut Events,
+    line: &[u8],
+) -> Result<(), LineError>
+    ensures ok { OnOk result (TakesLine (saids events.old) (saids events.new) (line_in profile line.now)) }
+    ensures err { IfErr result (λ error. Fails error (line_in profile line.now)) }
 {
-    if line.len() > MAX_LINE {
+    if line.len() > most_line(profile) {
         return Err(LineError::Fault(LineFault::TooLong));
     }
     if line.is_empty() || line[0] == b'#' {
@@ -73,20 +92,19 @@ pub fn take_event(alloc: Global, events: &mut Events, line: &[u8]) -> Result<(),
     if first == b"loss".as_slice() || first == b"reset".as_slice() {
         return take_other(alloc, events, first, rest);
     }
-    take_command(alloc, events, first, rest)
+    take_command(alloc, profile, events, first, rest)
 }
 
-/// Adds the event of a line whose first word is `loss` or `reset`, from that word and those behind it.
+/// Adds the event of a line whose first word is `loss`, or `reset` where it is another, from the words behind it.
 fn take_other(
     alloc: Global,
     events: &mut Events,
     first: &[u8],
     others: Option<&[u8]>,
 ) -> Result<(), LineError>
-    requires { bytes_eq first.now (codes "loss") ≡ false → bytes_eq first.now (codes "reset") ≡ true }
     ensures ok { OnOk result (TakesLine (saids events.old) (saids events.new)
-        (some_said (event_in (first.now ∷ pieces_after 32 others.entry)))) }
-    ensures err { IfErr result (λ error. Fails error (event_in (first.now ∷ pieces_after 32 others.entry))) }
+        (some_said (other_in first.now (pieces_after 32 others.entry)))) }
+    ensures err { IfErr result (λ error. Fails error (other_in first.now (pieces_after 32 others.entry))) }
 {
     let event = if first == b"loss".as_slice() {
         loss_of(others)?
@@ -136,14 +154,15 @@ pub fn sole_unit_of(words: Option<&[u8]>) -> Result<u8, LineError>
 /// Adds the command of a line `SAS.PORT LUN CDB [DATA]`, from its first word and those behind it.
 fn take_command(
     alloc: Global,
+    profile: Profile,
     events: &mut Events,
     first: &[u8],
     others: Option<&[u8]>,
 ) -> Result<(), LineError>
     ensures ok { OnOk result (TakesLine (saids events.old) (saids events.new)
-        (some_said (command_in (words_in (first.now ∷ pieces_after 32 others.entry))))) }
+        (some_said (command_in profile (words_in (first.now ∷ pieces_after 32 others.entry))))) }
     ensures err { IfErr result (λ error. Fails error
-        (command_in (words_in (first.now ∷ pieces_after 32 others.entry)))) }
+        (command_in profile (words_in (first.now ∷ pieces_after 32 others.entry)))) }
 {
     let Some(words) = words_of(first, others) else {
         return Err(LineError::Fault(LineFault::WordCount));
@@ -151,7 +170,7 @@ fn take_command(
     let nexus = nexus_of(words.nexus)?;
     let lun = unit_of(words.lun)?;
     let cdb = cdb_of(words.cdb)?;
-    let bytes = data_of(alloc, words.data)?;
+    let bytes = data_of(alloc, profile, words.data)?;
     let command = Event::Command {
         nexus,
         lun,
@@ -189,12 +208,12 @@ pub fn words_of<'a>(nexus: &'a [u8], others: Option<&'a [u8]>) -> Option<Words<'
 }
 
 /// The bytes of the fourth word, none where there is no such word.
-pub fn data_of(alloc: Global, word: Option<&[u8]>) -> Result<Vec<u8>, LineError>
+pub fn data_of(alloc: Global, profile: Profile, word: Option<&[u8]>) -> Result<Vec<u8>, LineError>
     ensures { Gives (λ bytes. bytes.items) result
-        (bytes_in (option_map (λ (b : Bor (List ℕ)). b.now) word.entry)) }
+        (bytes_in profile (option_map (λ (b : Bor (List ℕ)). b.now) word.entry)) }
 {
     match word {
         None => Ok(Vec::new(alloc)),
-        Some(word) => bytes_of(alloc, word, MAX_COMMAND_DATA),
+        Some(word) => bytes_of(alloc, word, most_command_data(profile) as usize),
     }
 }

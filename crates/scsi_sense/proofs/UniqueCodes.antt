@@ -4,13 +4,13 @@ use Rattle.std.specs.List.{find}
 use Rattle.scsi_sense.specs.Conditions.{sense_for, HasCodesOf, IsConditionOf}
 use Rattle.scsi_sense.specs.SenseKeys.{key_code, IsKeyOf}
 use Rattle.scsi_sense.specs.declared.condition.Condition.{Condition}
-use Rattle.scsi_sense.specs.declared.condition.Condition.TheVariants.{NoAdditionalSenseInformation, FilemarkDetected, BeginningOfMediumDetected, InitializingCommandRequired, MediumNotPresent, InternalTargetFailure, ParameterListLengthError, InvalidCommandOperationCode, InvalidElementAddress, InvalidFieldInCdb, LogicalUnitNotSupported, InvalidFieldInParameterList, InvalidReleaseOfPersistentReservation, SavingParametersNotSupported, MediumDestinationElementFull, MediumSourceElementEmpty, MediumRemovalPrevented, InsufficientRegistrationResources, NotReadyToReadyChange, PowerOnOrResetOccurred, BusDeviceResetFunctionOccurred, NexusLossOccurred, ModeParametersChanged, LogParametersChanged, ReservationsPreempted, ReservationsReleased, RegistrationsPreempted, WriteProtected, EndOfDataDetected, EndOfMediumDetected}
+use Rattle.scsi_sense.specs.declared.condition.Condition.TheVariants.{NoAdditionalSenseInformation, FilemarkDetected, EarlyWarning, BeginningOfMediumDetected, InitializingCommandRequired, MediumNotPresent, InternalTargetFailure, ParameterListLengthError, InvalidCommandOperationCode, InvalidElementAddress, InvalidFieldInCdb, LogicalUnitNotSupported, InvalidFieldInParameterList, InvalidReleaseOfPersistentReservation, SavingParametersNotSupported, MediumDestinationElementFull, MediumSourceElementEmpty, MediumRemovalPrevented, InsufficientRegistrationResources, NotReadyToReadyChange, PowerOnOrResetOccurred, BusDeviceResetFunctionOccurred, NexusLossOccurred, ModeParametersChanged, LogParametersChanged, ReservationsPreempted, ReservationsReleased, RegistrationsPreempted, WriteProtected, EndOfDataDetected, EndOfMediumDetected}
 use Rattle.scsi_sense.specs.declared.sense.Sense.{Sense}
 use Rattle.scsi_sense.specs.declared.sense_key.SenseKey.{SenseKey}
 use Rattle.scsi_sense.specs.declared.sense_key.SenseKey.TheVariants.{NoSense, NotReady, HardwareError, IllegalRequest, UnitAttention, DataProtect, BlankCheck, VolumeOverflow}
 
 abbrev conditions : List Condition
-conditions = NoAdditionalSenseInformation ∷ FilemarkDetected ∷ BeginningOfMediumDetected ∷ InitializingCommandRequired ∷ MediumNotPresent ∷ InternalTargetFailure ∷ ParameterListLengthError ∷ InvalidCommandOperationCode ∷ InvalidElementAddress ∷ InvalidFieldInCdb ∷ LogicalUnitNotSupported ∷ InvalidFieldInParameterList ∷ InvalidReleaseOfPersistentReservation ∷ SavingParametersNotSupported ∷ MediumDestinationElementFull ∷ MediumSourceElementEmpty ∷ MediumRemovalPrevented ∷ InsufficientRegistrationResources ∷ NotReadyToReadyChange ∷ PowerOnOrResetOccurred ∷ BusDeviceResetFunctionOccurred ∷ NexusLossOccurred ∷ ModeParametersChanged ∷ LogParametersChanged ∷ ReservationsPreempted ∷ ReservationsReleased ∷ RegistrationsPreempted ∷ WriteProtected ∷ EndOfDataDetected ∷ EndOfMediumDetected ∷ []
+conditions = NoAdditionalSenseInformation ∷ FilemarkDetected ∷ EarlyWarning ∷ BeginningOfMediumDetected ∷ InitializingCommandRequired ∷ MediumNotPresent ∷ InternalTargetFailure ∷ ParameterListLengthError ∷ InvalidCommandOperationCode ∷ InvalidElementAddress ∷ InvalidFieldInCdb ∷ LogicalUnitNotSupported ∷ InvalidFieldInParameterList ∷ InvalidReleaseOfPersistentReservation ∷ SavingParametersNotSupported ∷ MediumDestinationElementFull ∷ MediumSourceElementEmpty ∷ MediumRemovalPrevented ∷ InsufficientRegistrationResources ∷ NotReadyToReadyChange ∷ PowerOnOrResetOccurred ∷ BusDeviceResetFunctionOccurred ∷ NexusLossOccurred ∷ ModeParametersChanged ∷ LogParametersChanged ∷ ReservationsPreempted ∷ ReservationsReleased ∷ RegistrationsPreempted ∷ WriteProtected ∷ EndOfDataDetected ∷ EndOfMediumDetected ∷ []
 
 -- the first condition with these codes
 abbrev with_codes : (key asc ascq : ℕ) → Option Condition
@@ -19,6 +19,7 @@ with_codes key asc ascq = find (λ c. eqb key (sense_for c).key && (eqb asc (sen
 with_codes-sense_for : (c : Condition) → with_codes (sense_for c).key (sense_for c).asc (sense_for c).ascq ≡ Some c
 with_codes-sense_for NoAdditionalSenseInformation = refl
 with_codes-sense_for FilemarkDetected = refl
+with_codes-sense_for EarlyWarning = refl
 with_codes-sense_for BeginningOfMediumDetected = refl
 with_codes-sense_for InitializingCommandRequired = refl
 with_codes-sense_for MediumNotPresent = refl

@@ -2,7 +2,7 @@
 -- "Sense key and additional sense code definitions").
 use Rattle.std.specs.Prelude.{ℕ, List, codes}
 use Rattle.scsi_sense.specs.declared.condition.Condition.{Condition}
-use Rattle.scsi_sense.specs.declared.condition.Condition.TheVariants.{NoAdditionalSenseInformation, FilemarkDetected, BeginningOfMediumDetected, InitializingCommandRequired, MediumNotPresent, InternalTargetFailure, ParameterListLengthError, InvalidCommandOperationCode, InvalidElementAddress, InvalidFieldInCdb, LogicalUnitNotSupported, InvalidFieldInParameterList, InvalidReleaseOfPersistentReservation, SavingParametersNotSupported, MediumDestinationElementFull, MediumSourceElementEmpty, MediumRemovalPrevented, InsufficientRegistrationResources, NotReadyToReadyChange, PowerOnOrResetOccurred, BusDeviceResetFunctionOccurred, NexusLossOccurred, ModeParametersChanged, LogParametersChanged, ReservationsPreempted, ReservationsReleased, RegistrationsPreempted, WriteProtected, EndOfDataDetected, EndOfMediumDetected}
+use Rattle.scsi_sense.specs.declared.condition.Condition.TheVariants.{NoAdditionalSenseInformation, FilemarkDetected, EarlyWarning, BeginningOfMediumDetected, InitializingCommandRequired, MediumNotPresent, InternalTargetFailure, ParameterListLengthError, InvalidCommandOperationCode, InvalidElementAddress, InvalidFieldInCdb, LogicalUnitNotSupported, InvalidFieldInParameterList, InvalidReleaseOfPersistentReservation, SavingParametersNotSupported, MediumDestinationElementFull, MediumSourceElementEmpty, MediumRemovalPrevented, InsufficientRegistrationResources, NotReadyToReadyChange, PowerOnOrResetOccurred, BusDeviceResetFunctionOccurred, NexusLossOccurred, ModeParametersChanged, LogParametersChanged, ReservationsPreempted, ReservationsReleased, RegistrationsPreempted, WriteProtected, EndOfDataDetected, EndOfMediumDetected}
 use Rattle.scsi_sense.specs.declared.sense_key.SenseKey.{SenseKey}
 use Rattle.scsi_sense.specs.declared.sense_key.SenseKey.TheVariants.{NoSense, NotReady, HardwareError, IllegalRequest, UnitAttention, DataProtect, BlankCheck, VolumeOverflow}
 use Rattle.scsi_sense.specs.declared.status.Status.{Status}
@@ -27,6 +27,7 @@ key_name VolumeOverflow = codes "VOLUME OVERFLOW"
 abbrev pub condition_name : Condition → List ℕ
 condition_name NoAdditionalSenseInformation = codes "NO ADDITIONAL SENSE INFORMATION"
 condition_name FilemarkDetected = codes "FILEMARK DETECTED"
+condition_name EarlyWarning = codes "END-OF-PARTITION/MEDIUM DETECTED"
 condition_name BeginningOfMediumDetected = codes "BEGINNING-OF-PARTITION/MEDIUM DETECTED"
 condition_name InitializingCommandRequired = codes "LOGICAL UNIT NOT READY, INITIALIZING COMMAND REQUIRED"
 condition_name MediumNotPresent = codes "MEDIUM NOT PRESENT"

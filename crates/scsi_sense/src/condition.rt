@@ -10,6 +10,8 @@ pub enum Condition {
     NoAdditionalSenseInformation,
     /// NO SENSE, 00h/01h.
     FilemarkDetected,
+    /// NO SENSE, 00h/02h: END-OF-PARTITION/MEDIUM DETECTED, by a write that was carried out and ended at early warning.
+    EarlyWarning,
     /// NO SENSE, 00h/04h: BEGINNING-OF-PARTITION/MEDIUM DETECTED.
     BeginningOfMediumDetected,
     /// NOT READY, 04h/02h: LOGICAL UNIT NOT READY, INITIALIZING COMMAND REQUIRED.
@@ -79,6 +81,7 @@ impl Condition {
         match self {
             Condition::NoAdditionalSenseInformation => "NO ADDITIONAL SENSE INFORMATION",
             Condition::FilemarkDetected => "FILEMARK DETECTED",
+            Condition::EarlyWarning => "END-OF-PARTITION/MEDIUM DETECTED",
             Condition::BeginningOfMediumDetected => "BEGINNING-OF-PARTITION/MEDIUM DETECTED",
             Condition::InitializingCommandRequired =>
                 "LOGICAL UNIT NOT READY, INITIALIZING COMMAND REQUIRED",

@@ -3,7 +3,7 @@ ghost use Rattle.scsi_sense.specs.Conditions.{sense_for, reports, IsConditionOf,
 ghost use Rattle.scsi_sense.specs.FixedSense.{ReadsBack, fixed_sense, decoded_sense};
 ghost use Rattle.scsi_sense.specs.SenseKeys.{key_code, IsKeyOf, OneKeyAtMost};
 ghost use Rattle.scsi_sense.specs.Text.{condition_name, key_name, status_name};
-ghost use Rattle.scsi_sense.specs.declared.condition.Condition.TheVariants.{NoAdditionalSenseInformation, PowerOnOrResetOccurred, ModeParametersChanged, LogParametersChanged, RegistrationsPreempted, InvalidReleaseOfPersistentReservation, FilemarkDetected, EndOfDataDetected, NotReadyToReadyChange, InitializingCommandRequired, NexusLossOccurred, BeginningOfMediumDetected, EndOfMediumDetected};
+ghost use Rattle.scsi_sense.specs.declared.condition.Condition.TheVariants.{NoAdditionalSenseInformation, PowerOnOrResetOccurred, ModeParametersChanged, LogParametersChanged, RegistrationsPreempted, InvalidReleaseOfPersistentReservation, FilemarkDetected, EarlyWarning, EndOfDataDetected, NotReadyToReadyChange, InitializingCommandRequired, NexusLossOccurred, BeginningOfMediumDetected, EndOfMediumDetected};
 ghost use Rattle.scsi_sense.specs.declared.fault.SenseFault.TheVariants.{Short, NotFixed};
 ghost use Rattle.scsi_sense.specs.declared.sense_key.SenseKey.TheVariants.{NoSense, NotReady, HardwareError, IllegalRequest, UnitAttention, DataProtect, BlankCheck, VolumeOverflow};
 ghost use Rattle.scsi_sense.specs.declared.status.Status.TheVariants.{CheckCondition, ReservationConflict};
@@ -93,6 +93,25 @@ pub fn worked_words()
       information = 1000;
     }) (Some FilemarkDetected) }
     ensures at_the_end { IsConditionOf (reports 0xD 0x00 0x02) (Some EndOfMediumDetected) }
+    ensures at_early_warning { IsConditionOf (record (sense_for EarlyWarning) {
+      valid = true;
+      eom = true;
+    }) (Some EarlyWarning) }
     ensures at_the_beginning { IsConditionOf (reports 0x0 0x00 0x04) (Some BeginningOfMediumDetected) }
     ensures under_another_key { IsConditionOf (reports 0x6 0x00 0x04) None }
+{}
+
+ghost use Rattle.scsi_sense.specs.CarriedOut.{is_carried_out};
+ghost use Rattle.scsi_sense.specs.declared.status.Status.TheVariants.{Good, Busy};
+
+/// Worked rows: which commands were carried out, by their ends.
+pub fn worked_ends()
+    ensures good { is_carried_out Good None ≡ true }
+    ensures warned { is_carried_out CheckCondition (Some (reports 0x0 0x00 0x02)) ≡ true }
+    ensures overflow { is_carried_out CheckCondition (Some (reports 0xD 0x00 0x02)) ≡ false }
+    ensures at_a_filemark { is_carried_out CheckCondition (Some (reports 0x0 0x00 0x01)) ≡ false }
+    ensures at_the_beginning { is_carried_out CheckCondition (Some (reports 0x0 0x00 0x04)) ≡ false }
+    ensures of_other_length { is_carried_out CheckCondition (Some (reports 0x0 0x00 0x00)) ≡ false }
+    ensures busy { is_carried_out Busy None ≡ false }
+    ensures conflict { is_carried_out ReservationConflict None ≡ false }
 {}

@@ -37,6 +37,7 @@ impl Sense {
         match condition {
             Condition::NoAdditionalSenseInformation => Sense::with(NO_SENSE, 0x00, 0x00),
             Condition::FilemarkDetected => Sense::with(NO_SENSE, 0x00, 0x01),
+            Condition::EarlyWarning => Sense::with(NO_SENSE, 0x00, 0x02),
             Condition::BeginningOfMediumDetected => Sense::with(NO_SENSE, 0x00, 0x04),
             Condition::InitializingCommandRequired => Sense::with(NOT_READY, 0x04, 0x02),
             Condition::MediumNotPresent => Sense::with(NOT_READY, 0x3A, 0x00),
@@ -87,6 +88,7 @@ impl Sense {
         match (self.key, self.asc, self.ascq) {
             (NO_SENSE, 0x00, 0x00) => Some(Condition::NoAdditionalSenseInformation),
             (NO_SENSE, 0x00, 0x01) => Some(Condition::FilemarkDetected),
+            (NO_SENSE, 0x00, 0x02) => Some(Condition::EarlyWarning),
             (NO_SENSE, 0x00, 0x04) => Some(Condition::BeginningOfMediumDetected),
             (NOT_READY, 0x04, 0x02) => Some(Condition::InitializingCommandRequired),
             (NOT_READY, 0x3A, 0x00) => Some(Condition::MediumNotPresent),

@@ -4,6 +4,7 @@ use crate::door::{Door, NewConnection};
 use crate::event::Event;
 use crate::teller::Teller;
 use live_sessions::LiveSessions;
+use scsi_cdb::Profile;
 use std::io::Write;
 use std::sync::Wait;
 use std::sync::atomic::{AtomicU64, Ordering};
@@ -44,6 +45,8 @@ pub struct ServeLimits<'a> {
     pub spare: u8,
     pub term: ServeTerm,
     pub times: WaitTimes,
+    /// That of the library, which sessions at a socket have their limits from.
+    pub profile: Profile,
     /// Once these are closed no session begins. A worker that waits for a connection then waits on until one comes or the
     /// door is shut down.
     pub sessions: &'a LiveSessions,

@@ -17,6 +17,7 @@ use crate::worker::NewSession;
 use crate::worker_service::WorkerService;
 use iscsi_login::{Authentication, Challenge};
 use iscsi_session::{Arrival, IscsiEnd, IscsiFault, KeepingService, Portal, PortalAddress};
+use scsi_cdb::Profile;
 use session::{End, SeatService, SessionFault, serve};
 use std::alloc::{AllocError, Global};
 use std::cell::Cell;
@@ -126,7 +127,7 @@ fn serve_session<
     ensures { Leaves (DoesForWorker S.notes S.settles) S.count service.old service.new }
 {
     match new_session.door.portal() {
-        None => match serve_frames(alloc, service, reader, writer) {
+        None => match serve_frames(alloc, acceptor.limits.profile, service, reader, writer) {
             Ok(end) => Ok(end),
             Err(fault) => Err(Cause::Fault(fault)),
         },
@@ -162,21 +163,22 @@ fn serve_session<
     }
 }
 
-/// Serves one session of frames.
+/// Serves one session of frames with a library of a profile.
 fn serve_frames<'a, S: SeatService, K: TapeKeeper, R: Wait, E: Write, I: Read, O: Write>(
     alloc: Global,
+    profile: Profile,
     service: &mut WorkerService<'a, S, K, R, E>,
     reader: &mut I,
     writer: &mut O,
 ) -> Result<End, SessionFault>
-    ensures session { IfOk result (λ end. Serves (DoesForWorker S.notes S.settles) S.count service.old (I.remaining reader.old) (I.remaining reader.new)
+    ensures session { IfOk result (λ end. Serves profile (DoesForWorker S.notes S.settles) S.count service.old (I.remaining reader.old) (I.remaining reader.new)
         (O.contents writer.old) (O.contents writer.new) end service.new) }
     ensures service { frames.Leaves (DoesForWorker S.notes S.settles) S.count service.old service.new }
     ensures broken { IfErr result (λ fault.
-        IsKeptOut service.old (I.remaining reader.old) (I.remaining reader.new) (O.contents writer.old) (O.contents writer.new) fault service.new
-        ⊎ BreaksOff (DoesForWorker S.notes S.settles) S.count service.old (I.remaining reader.old) fault service.new) }
+        IsKeptOut profile service.old (I.remaining reader.old) (I.remaining reader.new) (O.contents writer.old) (O.contents writer.new) fault service.new
+        ⊎ BreaksOff profile (DoesForWorker S.notes S.settles) S.count service.old (I.remaining reader.old) fault service.new) }
 {
-    serve(alloc, service, reader, writer, u64::MAX)
+    serve(alloc, profile, service, reader, writer, u64::MAX)
 }
 
 /// Where an initiator has come in.

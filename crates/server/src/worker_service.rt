@@ -9,13 +9,13 @@ use iscsi_session::KeepingService;
 use live_sessions::ResetCounts;
 use logical_unit::{ActKind, Done};
 use scsi_nexus::Nexus;
-use scsi_sense::Status;
+use scsi_sense::{Status, is_carried_out};
 use session::{SeatService, Service, SessionFault};
 use std::alloc::Global;
 use std::io::Write;
 use std::marker::Model;
 use std::sync::Wait;
-use tape_keeper::{GoodCommand, TapeKeeper};
+use tape_keeper::{CarriedOutCommand, TapeKeeper};
 use tickets::{Outcome, RecordTicket, ReplyTicket, Ticket};
 
 /// A seat that has noted so many calls since they were settled is settled again.
@@ -150,12 +150,13 @@ impl<'a, S: SeatService, K: TapeKeeper, R: Wait, E: Write> WorkerService<'a, S, 
         self.teller.tell(self.rt, &event);
     }
 
-    /// Begins to keep what a command left, if it was GOOD, and with which so many bytes were sent, and gives the ticket that its reply
-    /// has to wait for.
+    /// Begins to keep what a command left, if it was carried out, and with which so many bytes were sent, and gives the ticket that its
+    /// reply has to wait for: also a write that ended at early warning.
     fn begin_to_keep(&self, done: &Done<'_>, length: usize) -> Option<Ticket>
         ensures { KeepsWhereSaid K.says_kept done.now result }
     {
-        if done.receipt().reply.status != Status::Good {
+        let reply = &done.receipt().reply;
+        if !is_carried_out(reply.status, reply.sense) {
             return None;
         }
         let class = match done.act() {
@@ -166,7 +167,7 @@ impl<'a, S: SeatService, K: TapeKeeper, R: Wait, E: Write> WorkerService<'a, S, 
             | Some(ActKind::Medium)
             | None => return None,
         };
-        let command = GoodCommand {
+        let command = CarriedOutCommand {
             lun: done.lun(),
             class,
             is_immediate: done.is_immediate(),
@@ -181,7 +182,8 @@ impl<'a, S: SeatService, K: TapeKeeper, R: Wait, E: Write> WorkerService<'a, S, 
         self.keeper.begin(self.rt, &listener, command)
     }
 
-    /// Keeps what a command left that was GOOD, where its session waits for that. Where it is lost the session's replies are sent no more.
+    /// Keeps what a command left that was carried out, where its session waits for that. Where it is lost the session's replies are sent no
+    /// more.
     fn keep_in_place(&self, done: &Done<'_>, length: usize) {
         match self.session.replies {
             Replies::Held => {}
@@ -189,7 +191,7 @@ impl<'a, S: SeatService, K: TapeKeeper, R: Wait, E: Write> WorkerService<'a, S, 
         }
     }
 
-    /// Keeps what a command left that was GOOD, and waits for that.
+    /// Keeps what a command left that was carried out, and waits for that.
     #[inline(never)]
     fn keep_and_wait(&self, done: &Done<'_>, length: usize) {
         if let Some(ticket) = self.begin_to_keep(done, length) {
@@ -212,10 +214,12 @@ impl<'a, S: SeatService, K: TapeKeeper, R: Wait, E: Write> WorkerService<'a, S, 
     {
         self.session.commands = self.session.commands.saturating_add(1);
         self.flags.counts().note_command();
-        match done.receipt().reply.status {
-            Status::Busy => self.tell_busy(nexus, done.lun()),
-            Status::Good => self.keep_in_place(done, length),
-            Status::CheckCondition | Status::ReservationConflict => {}
+        let reply = &done.receipt().reply;
+        if reply.status == Status::Busy {
+            self.tell_busy(nexus, done.lun());
+        }
+        if is_carried_out(reply.status, reply.sense) {
+            self.keep_in_place(done, length);
         }
         let record = record_of(done);
         self.session.is_full = self.note_record(record);

@@ -2,12 +2,16 @@
 use Rattle.std.proofs.Common.{◌≡◌, ℕ, true, List, [], ◌∷◌, ◌++◌, drop, refl, sym, ap, subst, ◌∙◌, append_assoc, append-nil}
 use Rattle.std.proofs.Common.{Option, Some, None}
 use Rattle.std.specs.Io.KnownBytes.{Appends}
+use Rattle.scsi_cdb.specs.declared.profile.Profile.{Profile}
 use Rattle.scsi_nexus.specs.declared.nexus.Nexus.{Nexus}
 use Rattle.logical_unit.specs.Answers.{DoneValue}
 use Rattle.frames.specs.Frames.{FrameValue, Login, Command, Reset, Logout, Complete, parsed_frame}
 use Rattle.frames.specs.Stream.{Takes}
 use Rattle.frames.specs.Replies.{ResetReply, LogoutReply, reply_bytes}
 use Rattle.frames.proofs.Taking.{takes_one, takes_more}
+use Rattle.session.specs.declared.fault.SessionFault.{SessionFault}
+use Rattle.session.specs.declared.fault.SessionFault.TheVariants.{BadFrame, TooLong, AlreadyConnected, Read, Write, NoMemory}
+use Rattle.session.specs.Faults.{IsOfAnswer, IsOfStream}
 use Rattle.session.specs.Answering.{State, command_reply, Says, Talks, Answers, AnswersAll}
 
 -- one frame more
@@ -19,35 +23,35 @@ talks_on {S} notes n s [] f out mid out' t u so one =
 talks_on {S} notes n s (g ∷ fs) f out mid out' t u so one =
     (so.0, so.1, so.2, talks_on notes n so.0 fs f so.1 mid out' t u so.3 one)
 
-pub none_yet : {S : Type 0} (notes : S → DoneValue → S → Type 0) (s : S) (before : State) → Answers notes s before before s
-none_yet notes s before = record { nexus = refl; frames = []; talked = (refl, refl); taken = refl }
+pub none_yet : (pr : Profile) {S : Type 0} (notes : S → DoneValue → S → Type 0) (s : S) (before : State) → Answers pr notes s before before s
+none_yet pr notes s before = record { nexus = refl; frames = []; talked = (refl, refl); taken = refl }
 
-pub one_more : {S : Type 0} (notes : S → DoneValue → S → Type 0) (s t u : S) (before mid after : State) (f : FrameValue) (k : ℕ)
-    → Answers notes s before mid t → parsed_frame true mid.pending ≡ Complete f k → after.pending ≡ drop k mid.pending
-    → after.nexus ≡ mid.nexus → Says notes mid.nexus t f mid.out after.out u → Answers notes s before after u
-one_more notes s t u before mid after f k so is cut same one = record {
+pub one_more : (pr : Profile) {S : Type 0} (notes : S → DoneValue → S → Type 0) (s t u : S) (before mid after : State) (f : FrameValue) (k : ℕ)
+    → Answers pr notes s before mid t → parsed_frame pr true mid.pending ≡ Complete f k → after.pending ≡ drop k mid.pending
+    → after.nexus ≡ mid.nexus → Says notes mid.nexus t f mid.out after.out u → Answers pr notes s before after u
+one_more pr notes s t u before mid after f k so is cut same one = record {
   nexus = same ∙ so.nexus;
   frames = so.frames ++ f ∷ [];
   talked =
       talks_on notes before.nexus s so.frames f before.out mid.out after.out t u so.talked
       (subst (λ (n : Nexus). Says notes n t f mid.out after.out u) so.nexus one);
   taken =
-      subst (λ (x : List ℕ). Takes true before.pending (so.frames ++ f ∷ []) x) (sym cut)
-      (takes_one true before.pending so.frames mid.pending f k refl so.taken is);
+      subst (λ (x : List ℕ). Takes pr true before.pending (so.frames ++ f ∷ []) x) (sym cut)
+      (takes_one pr true before.pending so.frames mid.pending f k refl so.taken is);
 }
 
-pub then_logout : {S : Type 0} (notes : S → DoneValue → S → Type 0) (s t u : S) (before mid after : State) (f : FrameValue) (k : ℕ)
-    → Answers notes s before mid t → parsed_frame true mid.pending ≡ Complete f k → after.pending ≡ drop k mid.pending
-    → (f ≡ Logout) × (after.out ≡ mid.out ++ reply_bytes LogoutReply) × (u ≡ t) → AnswersAll notes s before after u
-then_logout {S} notes s t u before mid after f k so is cut last = record {
+pub then_logout : (pr : Profile) {S : Type 0} (notes : S → DoneValue → S → Type 0) (s t u : S) (before mid after : State) (f : FrameValue) (k : ℕ)
+    → Answers pr notes s before mid t → parsed_frame pr true mid.pending ≡ Complete f k → after.pending ≡ drop k mid.pending
+    → (f ≡ Logout) × (after.out ≡ mid.out ++ reply_bytes LogoutReply) × (u ≡ t) → AnswersAll pr notes s before after u
+then_logout pr {S} notes s t u before mid after f k so is cut last = record {
   frames = so.frames;
   said = mid.out;
   talked = subst (λ (x : S). Talks notes before.nexus s so.frames before.out mid.out x) (sym last.2) so.talked;
   last = last.1;
   taken =
-      subst (λ (x : List ℕ). Takes true before.pending (so.frames ++ Logout ∷ []) x) (sym cut)
-      (subst (λ (g : FrameValue). Takes true before.pending (so.frames ++ g ∷ []) (drop k mid.pending)) last.0
-      (takes_one true before.pending so.frames mid.pending f k refl so.taken is));
+      subst (λ (x : List ℕ). Takes pr true before.pending (so.frames ++ Logout ∷ []) x) (sym cut)
+      (subst (λ (g : FrameValue). Takes pr true before.pending (so.frames ++ g ∷ []) (drop k mid.pending)) last.0
+      (takes_one pr true before.pending so.frames mid.pending f k refl so.taken is));
 }
 
 talks_append : {S : Type 0} (notes : S → DoneValue → S → Type 0) (n : Nexus) (s : S) (fs gs : List FrameValue)
@@ -74,23 +78,23 @@ talks_shift notes n s (f ∷ fs) pre out out' t so =
     (so.0, pre ++ so.1, says_shift notes n s f pre out so.1 so.0 so.2, talks_shift notes n so.0 fs pre so.1 out' t so.3)
 
 -- a batch behind those whose replies were written
-pub batch : {S : Type 0} (notes : S → DoneValue → S → Type 0) (s t u : S) (p q r : State) (gone : List ℕ)
-    → Answers notes s p (record q { out = gone ++ q.out }) t → Answers notes t q r u
-    → Answers notes s p (record r { out = gone ++ r.out }) u
-batch notes s t u p q r gone one two = record {
+pub batch : (pr : Profile) {S : Type 0} (notes : S → DoneValue → S → Type 0) (s t u : S) (p q r : State) (gone : List ℕ)
+    → Answers pr notes s p (record q { out = gone ++ q.out }) t → Answers pr notes t q r u
+    → Answers pr notes s p (record r { out = gone ++ r.out }) u
+batch pr notes s t u p q r gone one two = record {
   nexus = two.nexus ∙ one.nexus;
   frames = one.frames ++ two.frames;
   talked =
       talks_append notes p.nexus s one.frames two.frames p.out (gone ++ q.out) (gone ++ r.out) t u one.talked
       (talks_shift notes p.nexus t two.frames gone q.out r.out u
       (subst (λ (n : Nexus). Talks notes n t two.frames q.out r.out u) one.nexus two.talked));
-  taken = takes_more true p.pending one.frames q.pending two.frames r.pending refl one.taken two.taken;
+  taken = takes_more pr true p.pending one.frames q.pending two.frames r.pending refl one.taken two.taken;
 }
 
-pub last_batch : {S : Type 0} (notes : S → DoneValue → S → Type 0) (s t u : S) (p q r : State) (gone : List ℕ)
-    → Answers notes s p (record q { out = gone ++ q.out }) t → AnswersAll notes t q r u
-    → AnswersAll notes s p (record r { out = gone ++ r.out }) u
-last_batch notes s t u p q r gone one two = record {
+pub last_batch : (pr : Profile) {S : Type 0} (notes : S → DoneValue → S → Type 0) (s t u : S) (p q r : State) (gone : List ℕ)
+    → Answers pr notes s p (record q { out = gone ++ q.out }) t → AnswersAll pr notes t q r u
+    → AnswersAll pr notes s p (record r { out = gone ++ r.out }) u
+last_batch pr notes s t u p q r gone one two = record {
   frames = one.frames ++ two.frames;
   said = gone ++ two.said;
   talked =
@@ -99,8 +103,8 @@ last_batch notes s t u p q r gone one two = record {
       (subst (λ (n : Nexus). Talks notes n t two.frames q.out two.said u) one.nexus two.talked));
   last = ap (λ (x : List ℕ). gone ++ x) two.last ∙ sym (append_assoc gone two.said (reply_bytes LogoutReply));
   taken =
-      subst (λ (fs : List FrameValue). Takes true p.pending fs r.pending) (sym (append_assoc one.frames two.frames (Logout ∷ [])))
-      (takes_more true p.pending one.frames q.pending (two.frames ++ Logout ∷ []) r.pending refl one.taken two.taken);
+      subst (λ (fs : List FrameValue). Takes pr true p.pending fs r.pending) (sym (append_assoc one.frames two.frames (Logout ∷ [])))
+      (takes_more pr true p.pending one.frames q.pending (two.frames ++ Logout ∷ []) r.pending refl one.taken two.taken);
 }
 
 pub appends_none : (w : Option (List ℕ)) → Appends w w []
@@ -112,3 +116,12 @@ appends_more None w x a b one two = tt
 appends_more (Some xs) None x a b one two = absurd one
 appends_more (Some xs) (Some ys) None a b one two = absurd two
 appends_more (Some xs) (Some ys) (Some zs) a b one two = two ∙ ap (λ (l : List ℕ). l ++ b) one ∙ append_assoc xs a b
+
+-- an answer that found memory ends the session as a stream does
+pub of_answer : (fault : SessionFault) → IsOfAnswer fault → (fault ≡ NoMemory → ⊥) → IsOfStream fault
+of_answer BadFrame is memory = absurd is
+of_answer TooLong is memory = tt
+of_answer AlreadyConnected is memory = absurd is
+of_answer Read is memory = absurd is
+of_answer Write is memory = absurd is
+of_answer NoMemory is memory = absurd (memory refl)

@@ -1,5 +1,6 @@
 -- What a session leaves, from what it said and did.
 use Rattle.std.proofs.Common.{◌≡◌, ℕ, Bool, true, List, [], ◌∷◌, Option, Some, None, inl, inr, sym, subst, ◌⊎◌}
+use Rattle.scsi_cdb.specs.declared.profile.Profile.{Profile}
 use Rattle.scsi_nexus.specs.declared.nexus.Nexus.{Nexus}
 use Rattle.logical_unit.specs.Answers.{DoneValue}
 use Rattle.frames.specs.Frames.{FrameValue, Login, Command, Reset, Logout}
@@ -41,17 +42,17 @@ is_left {S} notes count n s s1 before after t units all library calls size lost 
     (subst (λ (x : S). IsLostBelow notes n units before x all) (sym last) lost))
 
 -- a session that ended well leaves so much
-pub serves_left : {S : Type 0} (notes : S → DoneValue → S → Type 0) (count : S → ℕ) (s : S) (left left' written written' : Option (List ℕ))
-    (end : End) (t : S) → Serves notes count s left left' written written' end t → Leaves notes count s t
-serves_left notes count s left left' written written' end t (inl never) = nobody notes count s t never.service
-serves_left notes count s left left' written written' end t (inr held) =
+pub serves_left : (pr : Profile) {S : Type 0} (notes : S → DoneValue → S → Type 0) (count : S → ℕ) (s : S) (left left' written written' : Option (List ℕ))
+    (end : End) (t : S) → Serves pr notes count s left left' written written' end t → Leaves notes count s t
+serves_left pr notes count s left left' written written' end t (inl never) = nobody notes count s t never.service
+serves_left pr notes count s left left' written written' end t (inr held) =
     somebody notes count held.nexus s held.before_loss t true
     (talks_calls notes held.nexus s held.frames _ held.said held.before_loss held.talked) held.lost
 
 -- and so does one that broke off
-pub broken_left : {S : Type 0} (notes : S → DoneValue → S → Type 0) (count : S → ℕ) (s : S) (left left' written written' : Option (List ℕ))
+pub broken_left : (pr : Profile) {S : Type 0} (notes : S → DoneValue → S → Type 0) (count : S → ℕ) (s : S) (left left' written written' : Option (List ℕ))
     (fault : SessionFault) (t : S)
-    → IsKeptOut s left left' written written' fault t ⊎ BreaksOff notes count s left fault t → Leaves notes count s t
-broken_left notes count s left left' written written' fault t (inl out) = nobody notes count s t out.service
-broken_left notes count s left left' written written' fault t (inr broke) =
+    → IsKeptOut pr s left left' written written' fault t ⊎ BreaksOff pr notes count s left fault t → Leaves notes count s t
+broken_left pr notes count s left left' written written' fault t (inl out) = nobody notes count s t out.service
+broken_left pr notes count s left left' written written' fault t (inr broke) =
     somebody notes count broke.nexus s broke.before t broke.all broke.calls broke.lost

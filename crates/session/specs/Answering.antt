@@ -1,6 +1,7 @@
 -- What a session does with its frames. `notes s d t` says that a call with the answer d makes t of the service s.
 use Rattle.std.specs.Prelude.{◌≡◌, ◌⊎◌, ◌≤◌, ℕ, true, List, [], ◌∷◌, ◌++◌, Option, Some, None}
 use Rattle.std.specs.Io.KnownBytes.{Appends}
+use Rattle.scsi_cdb.specs.declared.profile.Profile.{Profile}
 use Rattle.scsi_nexus.specs.declared.nexus.Nexus.{Nexus}
 use Rattle.logical_unit.specs.Answers as event
 use Rattle.logical_unit.specs.Answers.{DoneValue, IsAnswer}
@@ -17,7 +18,7 @@ pub record State : Type 0 where
   pub pending : List ℕ
   pub out : List ℕ
 
-abbrev pub state_of : Session → State
+abbrev pub state_of : {ROOM : ℕ} → Session ROOM → State
 state_of session = record { nexus = session.nexus; pending = session.read_buffer; out = session.out.items }
 
 -- the reply frame of an answered command
@@ -58,35 +59,35 @@ abbrev pub ComesByCalls : {S : Type 0} → (S → DoneValue → S → Type 0) �
 ComesByCalls notes n s t = (ds : List DoneValue) × Calls notes n s ds t
 
 -- some frames that were pending were answered, in order, and others are pending
-pub record Answers {S : Type 0} (notes : S → DoneValue → S → Type 0) (s : S) (before after : State) (t : S) : Type 0 where
+pub record Answers {S : Type 0} (profile : Profile) (notes : S → DoneValue → S → Type 0) (s : S) (before after : State) (t : S) : Type 0 where
   pub nexus : after.nexus ≡ before.nexus
   pub frames : List FrameValue
   pub talked : Talks notes before.nexus s frames before.out after.out t
-  pub taken : Takes true before.pending frames after.pending
+  pub taken : Takes profile true before.pending frames after.pending
 
 -- and then LOGOUT
-pub record AnswersAll {S : Type 0} (notes : S → DoneValue → S → Type 0) (s : S) (before after : State) (t : S) : Type 0 where
+pub record AnswersAll {S : Type 0} (profile : Profile) (notes : S → DoneValue → S → Type 0) (s : S) (before after : State) (t : S) : Type 0 where
   pub frames : List FrameValue
   pub said : List ℕ
   pub talked : Talks notes before.nexus s frames before.out said t
   pub last : after.out ≡ said ++ reply_bytes LogoutReply
-  pub taken : Takes true before.pending (frames ++ Logout ∷ []) after.pending
+  pub taken : Takes profile true before.pending (frames ++ Logout ∷ []) after.pending
 
 -- part of the replies was written, and the others wait behind it
 pub record AnswersOut
-    {S : Type 0} (notes : S → DoneValue → S → Type 0) (s : S) (before : State) (written written' : Option (List ℕ)) (after : State) (t : S)
+    {S : Type 0} (profile : Profile) (notes : S → DoneValue → S → Type 0) (s : S) (before : State) (written written' : Option (List ℕ)) (after : State) (t : S)
     : Type 0 where
   pub gone : List ℕ
   pub appended : Appends written written' gone
-  pub answered : Answers notes s before (record after { out = gone ++ after.out }) t
+  pub answered : Answers profile notes s before (record after { out = gone ++ after.out }) t
 
 pub record AnswersAllOut
-    {S : Type 0} (notes : S → DoneValue → S → Type 0) (s : S) (before : State) (written written' : Option (List ℕ)) (after : State) (t : S)
+    {S : Type 0} (profile : Profile) (notes : S → DoneValue → S → Type 0) (s : S) (before : State) (written written' : Option (List ℕ)) (after : State) (t : S)
     : Type 0 where
   pub gone : List ℕ
   pub appended : Appends written written' gone
-  pub answered : AnswersAll notes s before (record after { out = gone ++ after.out }) t
+  pub answered : AnswersAll profile notes s before (record after { out = gone ++ after.out }) t
 
 -- what waits to be written is no more than one reply of the largest, and there is room for another behind it
-abbrev pub HasRoom : (waiting capacity : ℕ) → Type 0
-HasRoom waiting capacity = (waiting ≤ reply_size_limit) × (out_room ≤ capacity)
+abbrev pub HasRoom : Profile → (waiting capacity : ℕ) → Type 0
+HasRoom profile waiting capacity = (waiting ≤ reply_size_limit profile) × (out_room profile ≤ capacity)

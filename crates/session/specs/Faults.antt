@@ -16,3 +16,9 @@ IsOfStream Read = Unit {0}
 IsOfStream Write = Unit {0}
 IsOfStream AlreadyConnected = ⊥
 IsOfStream NoMemory = ⊥
+
+-- of an answer: memory is refused, or it has more data than a reply carries
+abbrev pub IsOfAnswer : SessionFault → Type 0
+IsOfAnswer NoMemory = Unit {0}
+IsOfAnswer TooLong = Unit {0}
+IsOfAnswer fault = ⊥

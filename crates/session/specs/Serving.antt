@@ -1,6 +1,7 @@
 -- A whole session.
 use Rattle.std.specs.Prelude.{◌≡◌, ◌≢◌, ◌⊎◌, MatchBool, ℕ, zero, suc, Bool, true, false, not, ◌&&◌, List, [], ◌∷◌, ◌++◌, length, ◌<◌, Option, Some}
 use Rattle.std.specs.Io.KnownBytes.{Consumes, Appends, IsAtEnd}
+use Rattle.scsi_cdb.specs.declared.profile.Profile.{Profile}
 use Rattle.scsi_nexus.specs.declared.nexus.Nexus.{Nexus}
 use Rattle.scsi_sense.specs.declared.status.Status.{Status}
 use Rattle.scsi_sense.specs.declared.status.Status.TheVariants.{Good, CheckCondition, Busy, ReservationConflict}
@@ -21,20 +22,20 @@ use Rattle.session.specs.Login.{IsKeptOutBy, end_of}
 
 -- what was pending is answered as far as it is whole, and all replies are written; and so with a LOGOUT at its end
 pub record Writes
-    {S : Type 0} (notes : S → DoneValue → S → Type 0) (s : S) (before : State) (written written' : Option (List ℕ)) (after : State) (t : S)
+    {S : Type 0} (profile : Profile) (notes : S → DoneValue → S → Type 0) (s : S) (before : State) (written written' : Option (List ℕ)) (after : State) (t : S)
     : Type 0 where
   pub said : List ℕ
   pub appended : Appends written written' said
-  pub answered : Answers notes s before (record after { out = said }) t
-  pub partial : parsed_frame true after.pending ≡ Partial
-  pub short : length after.pending < frame_size_limit
+  pub answered : Answers profile notes s before (record after { out = said }) t
+  pub partial : parsed_frame profile true after.pending ≡ Partial
+  pub short : length after.pending < frame_size_limit profile
 
 pub record WritesAll
-    {S : Type 0} (notes : S → DoneValue → S → Type 0) (s : S) (before : State) (written written' : Option (List ℕ)) (after : State) (t : S)
+    {S : Type 0} (profile : Profile) (notes : S → DoneValue → S → Type 0) (s : S) (before : State) (written written' : Option (List ℕ)) (after : State) (t : S)
     : Type 0 where
   pub said : List ℕ
   pub appended : Appends written written' said
-  pub answered : AnswersAll notes s before (record after { out = said }) t
+  pub answered : AnswersAll profile notes s before (record after { out = said }) t
 
 -- the last frame of a session that a LOGOUT ends, and its reply
 abbrev pub last_frames : End → List FrameValue
@@ -48,9 +49,9 @@ last_reply end.Closed = []
 last_reply end.Cut = []
 
 -- a session that no LOGOUT ended read to the end of input, between frames or within one
-abbrev pub EndsAt : End → (left : Option (List ℕ)) → (rest : List ℕ) → Type 0
-EndsAt end.Logout left rest = Unit {0}
-EndsAt end left rest = IsAtEnd left × (parsed_frame true rest ≡ Partial) × (end ≡ end_of rest)
+abbrev pub EndsAt : Profile → End → (left : Option (List ℕ)) → (rest : List ℕ) → Type 0
+EndsAt profile end.Logout left rest = Unit {0}
+EndsAt profile end left rest = IsAtEnd left × (parsed_frame profile true rest ≡ Partial) × (end ≡ end_of rest)
 
 -- with the reply to its LOGIN as the one that waits to be written
 abbrev pub greeted : State → State
@@ -58,16 +59,16 @@ greeted state = record state { out = reply_bytes (LoginReply Accepted) }
 
 -- from a LOGIN on: the frames that were pending and that were read, in order, and what was answered to them
 pub record Converses
-    {S : Type 0} (notes : S → DoneValue → S → Type 0) (s : S) (before : State) (left left' written written' : Option (List ℕ)) (end : End)
+    {S : Type 0} (profile : Profile) (notes : S → DoneValue → S → Type 0) (s : S) (before : State) (left left' written written' : Option (List ℕ)) (end : End)
     (rest : List ℕ) (t : S) : Type 0 where
   pub read : List ℕ
   pub frames : List FrameValue
   pub said : List ℕ
   pub consumed : Consumes left left' read
-  pub taken : Takes true (before.pending ++ read) (frames ++ last_frames end) rest
+  pub taken : Takes profile true (before.pending ++ read) (frames ++ last_frames end) rest
   pub talked : Talks notes before.nexus s frames before.out said t
   pub appended : Appends written written' (said ++ last_reply end)
-  pub ended : EndsAt end left' rest
+  pub ended : EndsAt profile end left' rest
 
 -- the nexus is lost at each unit below one, and whether none of these was BUSY
 abbrev pub is_busy : Status → Bool
@@ -92,15 +93,15 @@ refusal session.Write = []
 refusal session.NoMemory = []
 
 -- a session that ended before it was let in did nothing at the service, wrote its refusal alone, and read what keeps it out
-pub record IsKeptOut {S : Type 0} (s : S) (left left' written written' : Option (List ℕ)) (fault : SessionFault) (t : S) : Type 0 where
+pub record IsKeptOut {S : Type 0} (profile : Profile) (s : S) (left left' written written' : Option (List ℕ)) (fault : SessionFault) (t : S) : Type 0 where
   pub service : t ≡ s
-  pub because : IsKeptOutBy fault left left'
+  pub because : IsKeptOutBy profile fault left left'
   pub said : fault ≢ session.Write → Appends written written' (refusal fault)
 
 -- a session that ended early later on: what was read first is its LOGIN, what it did at the service are calls of its own, and the last that it
 -- did there was to lose the nexus of that LOGIN at every unit. It ended for want of memory only where such a loss was BUSY
 pub record BreaksOff
-    {S : Type 0} (notes : S → DoneValue → S → Type 0) (count : S → ℕ) (s : S) (left : Option (List ℕ)) (fault : SessionFault) (t : S)
+    {S : Type 0} (profile : Profile) (notes : S → DoneValue → S → Type 0) (count : S → ℕ) (s : S) (left : Option (List ℕ)) (fault : SessionFault) (t : S)
     : Type 0 where
   pub nexus : Nexus
   pub read : List ℕ
@@ -109,17 +110,17 @@ pub record BreaksOff
   pub before : S
   pub all : Bool
   pub consumed : Consumes left middle read
-  pub login : parsed_frame false read ≡ Complete (Login nexus) size
+  pub login : parsed_frame profile false read ≡ Complete (Login nexus) size
   pub calls : ComesByCalls notes nexus s before
   pub lost : IsLostBelow notes nexus (count before) before t all
   pub ended : MatchBool all (IsOfStream fault) (fault ≡ session.NoMemory)
 
 -- a session that never logged in: nothing was written, and nothing has changed
-pub record NeverLogsIn {S : Type 0} (s : S) (left left' written written' : Option (List ℕ)) (end : End) (t : S) : Type 0 where
+pub record NeverLogsIn {S : Type 0} (profile : Profile) (s : S) (left left' written written' : Option (List ℕ)) (end : End) (t : S) : Type 0 where
   pub read : List ℕ
   pub consumed : Consumes left left' read
   pub at_end : IsAtEnd left'
-  pub partial : parsed_frame false read ≡ Partial
+  pub partial : parsed_frame profile false read ≡ Partial
   pub ended : end ≡ end_of read
   pub silent : Appends written written' []
   pub service : t ≡ s
@@ -127,7 +128,7 @@ pub record NeverLogsIn {S : Type 0} (s : S) (left left' written written' : Optio
 -- a session: what was read begins with a LOGIN and these frames, and LOGOUT where that ended it; what was written is the reply to LOGIN and
 -- just one reply for each frame, in order, of the answer to that very frame's call; and then the nexus was lost at every unit
 pub record IsHeld
-    {S : Type 0} (notes : S → DoneValue → S → Type 0) (count : S → ℕ) (s : S) (left left' written written' : Option (List ℕ)) (end : End)
+    {S : Type 0} (profile : Profile) (notes : S → DoneValue → S → Type 0) (count : S → ℕ) (s : S) (left left' written written' : Option (List ℕ)) (end : End)
     (t : S)
     : Type 0 where
   pub nexus : Nexus
@@ -137,13 +138,13 @@ pub record IsHeld
   pub said : List ℕ
   pub before_loss : S
   pub consumed : Consumes left left' read
-  pub taken : Takes false read (Login nexus ∷ frames ++ last_frames end) rest
+  pub taken : Takes profile false read (Login nexus ∷ frames ++ last_frames end) rest
   pub talked : Talks notes nexus s frames (reply_bytes (LoginReply Accepted)) said before_loss
   pub appended : Appends written written' (said ++ last_reply end)
-  pub ended : EndsAt end left' rest
+  pub ended : EndsAt profile end left' rest
   pub lost : IsLostBelow notes nexus (count before_loss) before_loss t true
 
-abbrev pub Serves : {S : Type 0} → (S → DoneValue → S → Type 0) → (count : S → ℕ) → S → (left left' written written' : Option (List ℕ)) →
+abbrev pub Serves : {S : Type 0} → Profile → (S → DoneValue → S → Type 0) → (count : S → ℕ) → S → (left left' written written' : Option (List ℕ)) →
     End → S → Type 0
-Serves notes count s left left' written written' end t =
-    NeverLogsIn s left left' written written' end t ⊎ IsHeld notes count s left left' written written' end t
+Serves profile notes count s left left' written written' end t =
+    NeverLogsIn profile s left left' written written' end t ⊎ IsHeld profile notes count s left left' written written' end t

@@ -1,5 +1,6 @@
--- A stream cut into frames, piece by piece.
+-- A stream of a session of a library of a profile cut into frames, piece by piece.
 use Rattle.std.specs.Prelude.{◌≡◌, ℕ, Bool, false, List, [], ◌∷◌, ◌++◌, map, Option, Some, None, Result, Ok, Err}
+use Rattle.scsi_cdb.specs.declared.profile.Profile.{Profile}
 use Rattle.frames.specs.declared.fault.FrameFault.{FrameFault}
 use Rattle.frames.specs.Frames.{FrameValue, Login, Command, Reset, Logout}
 use Rattle.frames.specs.Stream.{Stop, Waiting, Broken, Reads, Feeds}
@@ -29,19 +30,19 @@ answer (Waiting logged rest) = Ok tt
 answer (Broken fault) = Err (of_frame fault)
 
 -- the frames of what was pending are added
-abbrev pub Given : (logged : Bool) → (pending : List ℕ) → (out out' : List FrameValue) → Stop → Type 0
-Given logged pending out out' stop = (frames : List FrameValue) × (out' ≡ out ++ frames) × Reads logged pending frames stop
+abbrev pub Given : Profile → (logged : Bool) → (pending : List ℕ) → (out out' : List FrameValue) → Stop → Type 0
+Given profile logged pending out out' stop = (frames : List FrameValue) × (out' ≡ out ++ frames) × Reads profile logged pending frames stop
 
 -- the frames of one more piece are added
-abbrev pub Fed : Stop → (piece : List ℕ) → (out out' : List FrameValue) → Stop → Type 0
-Fed before piece out out' after = (frames : List FrameValue) × (out' ≡ out ++ frames) × Feeds before piece frames after
+abbrev pub Fed : Profile → Stop → (piece : List ℕ) → (out out' : List FrameValue) → Stop → Type 0
+Fed profile before piece out out' after = (frames : List FrameValue) × (out' ≡ out ++ frames) × Feeds profile before piece frames after
 
 -- pieces that are fed one after another, and the frames of all
-abbrev pub FeedsAll : Stop → (pieces : List (List ℕ)) → List FrameValue → Stop → Type 0
-FeedsAll before [] frames after = (frames ≡ []) × (after ≡ before)
-FeedsAll before (piece ∷ pieces) frames after =
-    (first others : List FrameValue) × (between : Stop) × (frames ≡ first ++ others) × Feeds before piece first between × FeedsAll between pieces others after
+abbrev pub FeedsAll : Profile → Stop → (pieces : List (List ℕ)) → List FrameValue → Stop → Type 0
+FeedsAll profile before [] frames after = (frames ≡ []) × (after ≡ before)
+FeedsAll profile before (piece ∷ pieces) frames after =
+    (first others : List FrameValue) × (between : Stop) × (frames ≡ first ++ others) × Feeds profile before piece first between × FeedsAll profile between pieces others after
 
 -- the pieces of a stream from its first byte on
-abbrev pub Splits : (pieces : List (List ℕ)) → List FrameValue → Stop → Type 0
-Splits pieces frames stop = FeedsAll (Waiting false []) pieces frames stop
+abbrev pub Splits : Profile → (pieces : List (List ℕ)) → List FrameValue → Stop → Type 0
+Splits profile pieces frames stop = FeedsAll profile (Waiting false []) pieces frames stop

@@ -4,7 +4,9 @@ ghost use Rattle.session.specs.Faults.{IsOfStream};
 ghost use Rattle.session.specs.Login.{Awaits, IsKeptOutBy, LeavesReads, ReadsAtMost, end_of};
 
 use crate::fault::{End, SessionFault};
-use frames::{FrameBuffer, FrameRef, ParsedFrame, parse_frame};
+use frames::{FrameRef, ParsedFrame, parse_frame};
+use read_buffer::ReadBuffer;
+use scsi_cdb::Profile;
 use scsi_nexus::Nexus;
 use std::io::Read;
 
@@ -17,18 +19,20 @@ pub(crate) enum LoginWait {
     Ended(End),
 }
 
-/// Reads until a LOGIN has come whole, and takes it off what is pending.
-pub(crate) fn await_login<R: Read>(
-    read_buffer: &mut FrameBuffer,
+/// Reads until a LOGIN of a session of a library of a profile has come whole, and takes it off what is pending.
+pub(crate) fn await_login<const ROOM: usize, R: Read>(
+    profile: Profile,
+    read_buffer: &mut ReadBuffer<ROOM>,
     reader: &mut R,
     turns: u64,
 ) -> Result<LoginWait, SessionFault>
-    requires { read_buffer.old ≡ [] }
-    ensures wait { IfOk result (λ wait. Awaits turns (R.remaining reader.old) (R.remaining reader.new) read_buffer.new wait) }
-    ensures reads { ReadsAtMost (turns * frame_buffer_size) (R.remaining reader.old) (R.remaining reader.new) }
-    ensures rest { IfOk result (λ wait. LeavesReads turns (R.remaining reader.old) (R.remaining reader.new) wait) }
+    requires empty { read_buffer.old ≡ [] }
+    requires room { ROOM ≡ frame_buffer_size profile }
+    ensures wait { IfOk result (λ wait. Awaits profile turns (R.remaining reader.old) (R.remaining reader.new) read_buffer.new wait) }
+    ensures reads { ReadsAtMost (turns * frame_buffer_size profile) (R.remaining reader.old) (R.remaining reader.new) }
+    ensures rest { IfOk result (λ wait. LeavesReads profile turns (R.remaining reader.old) (R.remaining reader.new) wait) }
     ensures fault { IfErr result IsOfStream }
-    ensures kept_out { IfErr result (λ fault. IsKeptOutBy fault (R.remaining reader.old) (R.remaining reader.new)) }
+    ensures kept_out { IfErr result (λ fault. IsKeptOutBy profile fault (R.remaining reader.old) (R.remaining reader.new)) }
 {
     'reads: for turn in 0..turns {
         match read_buffer.fill(reader) {
@@ -36,7 +40,7 @@ pub(crate) fn await_login<R: Read>(
             Ok(_) => {}
             Err(_) => return Err(SessionFault::Read),
         }
-        match parse_frame(false, read_buffer.pending()) {
+        match parse_frame(profile, false, read_buffer.pending()) {
             ParsedFrame::Partial => {}
             ParsedFrame::Invalid(fault) => return Err(fault.into()),
             ParsedFrame::Complete(FrameRef::Login { nexus }, count) => {

@@ -6,16 +6,17 @@ ghost use Rattle.session.specs.Splitting.{values_of_frames, stopped, answer, Fed
 use crate::fault::SessionFault;
 use crate::frame::{Frame, copy_of};
 use frames::{FrameFault, ParsedFrame, parse_frame};
+use scsi_cdb::Profile;
 use std::alloc::{AllocError, Global};
 use std::marker::Model;
 
-/// Cuts a stream into frames, as its pieces come. Contracts see where it stands: at bytes that are no whole frame yet,
-/// after a LOGIN or before, or at a fault for good.
+/// Cuts a stream of a session of a library of a profile into frames, as its pieces come. Contracts see where it stands: at bytes that are
+/// no whole frame yet, after a LOGIN or before, or at a fault for good.
 ///
 /// ```text
 /// let mut splitter = Splitter::new(alloc);
 /// for piece in pieces {
-///     splitter.feed(piece, &mut frames)?;
+///     splitter.feed(profile, piece, &mut frames)?;
 /// }
 /// ```
 #[derive(Drop)]
@@ -44,15 +45,20 @@ struct Cut {
 }
 
 /// Cuts all whole frames off the front.
-fn frames_of(alloc: Global, logged_in: bool, bytes: &[u8]) -> Result<Cut, AllocError>
-    ensures read { IfOk result (λ cut. Reads logged_in bytes.now (values_of_frames cut.frames.items) (stopped cut.fault cut.logged_in (drop cut.taken bytes.now))) }
+fn frames_of(
+    alloc: Global,
+    profile: Profile,
+    logged_in: bool,
+    bytes: &[u8],
+) -> Result<Cut, AllocError>
+    ensures read { IfOk result (λ cut. Reads profile logged_in bytes.now (values_of_frames cut.frames.items) (stopped cut.fault cut.logged_in (drop cut.taken bytes.now))) }
     ensures within { IfOk result (λ cut. cut.taken ≤ length bytes.now) }
 {
     let mut frames = Vec::new(alloc);
     let mut logged = logged_in;
     let mut rest = bytes;
     'frames: loop {
-        match parse_frame(logged, rest) {
+        match parse_frame(profile, logged, rest) {
             ParsedFrame::Partial => {
                 return Ok(Cut {
                     frames,
@@ -91,11 +97,12 @@ fn pass(bytes: &mut Vec<u8>, count: usize)
 /// Adds the frames that are whole, and takes their bytes off what is pending: whether a LOGIN has come, and the fault
 /// behind them, if there is one.
 fn give(
+    profile: Profile,
     logged_in: bool,
     pending: &mut Vec<u8>,
     out: &mut Vec<Frame>,
 ) -> Result<(bool, Option<FrameFault>), AllocError>
-    ensures ok { IfOk result (λ left. Given logged_in pending.old.items (values_of_frames out.old.items) (values_of_frames out.new.items) (stopped left.1 left.0 pending.new.items)) }
+    ensures ok { IfOk result (λ left. Given profile logged_in pending.old.items (values_of_frames out.old.items) (values_of_frames out.new.items) (stopped left.1 left.0 pending.new.items)) }
     ensures err { OnErr result ((pending.new.items ≡ pending.old.items) × (out.new.items ≡ out.old.items)) }
 {
     let Cut {
@@ -103,7 +110,7 @@ fn give(
         taken,
         logged_in,
         fault,
-    } = frames_of(*pending.allocator(), logged_in, pending.as_slice())?;
+    } = frames_of(*pending.allocator(), profile, logged_in, pending.as_slice())?;
     out.append(&mut frames)?;
     pass(pending, taken);
     Ok((logged_in, fault))
@@ -124,8 +131,13 @@ impl Splitter {
     /// Takes the next piece of the stream, of any length, and adds each frame that is whole now. `BadFrame` and `TooLong`
     /// come behind the frames before the fault, and each later piece is answered the same. `NoMemory` changes nothing, so
     /// the piece may be handed in again.
-    pub fn feed(&mut self, piece: &[u8], out: &mut Vec<Frame>) -> Result<(), SessionFault>
-        ensures fed { result ≢ Err NoMemory → Fed self.old piece.now (values_of_frames out.old.items) (values_of_frames out.new.items) self.new }
+    pub fn feed(
+        &mut self,
+        profile: Profile,
+        piece: &[u8],
+        out: &mut Vec<Frame>,
+    ) -> Result<(), SessionFault>
+        ensures fed { result ≢ Err NoMemory → Fed profile self.old piece.now (values_of_frames out.old.items) (values_of_frames out.new.items) self.new }
         ensures told { result ≢ Err NoMemory → result ≡ answer self.new }
         ensures memory { result ≡ Err NoMemory → (self.new ≡ self.old) × (out.new.items ≡ out.old.items) }
     {
@@ -134,7 +146,7 @@ impl Splitter {
         }
         let before = self.pending.len();
         self.pending.extend_from_slice(piece)?;
-        match give(self.logged_in, &mut self.pending, out) {
+        match give(profile, self.logged_in, &mut self.pending, out) {
             Ok((logged_in, fault)) => {
                 self.logged_in = logged_in;
                 self.fault = fault;

@@ -4,11 +4,12 @@ use Rattle.std.proofs.Common.{◌∙◌, min, take, not, ◌==◌, ◌&&◌, if�
 use Rattle.scsi_cdb.specs.declared.host_request.HostRequest.{HostRequest}
 use Rattle.scsi_cdb.specs.declared.host_request.HostRequest.TheVariants as host
 use Rattle.scsi_cdb.specs.declared.kind.Kind.TheVariants.{Drive as drive_kind}
+use Rattle.scsi_cdb.specs.declared.profile.Profile.TheVariants.{Spec, Hosts}
 use Rattle.scsi_cdb.specs.declared.request.Request.{Request}
 use Rattle.scsi_cdb.specs.declared.request.Request.TheVariants as request
 use Rattle.scsi_sense.specs.declared.condition.Condition.{Condition}
 use Rattle.scsi_sense.specs.declared.condition.Condition.TheVariants.{InternalTargetFailure, InvalidElementAddress}
-use Rattle.tape_medium.specs.Limits.{block_limit}
+use Rattle.tape_medium.specs.Limits.{most_block}
 use Rattle.tape_medium.specs.TapeView.{TapeView}
 use Rattle.tape_medium.specs.declared.volume.Volume.{Volume}
 use Rattle.tape_medium.specs.declared.elements.MapFault.{MapFault}
@@ -39,10 +40,10 @@ use Rattle.device_server.specs.Mode.{block_length_after, mode_data}
 use Rattle.device_server.specs.Settled.{SameButSettled, unsettled}
 use Rattle.device_server.specs.Hosts.{mode_sense, log_sense, log_select}
 use Rattle.device_server.specs.HostChanger.{ChangerView, sources_moved, sources_exchanged, host_moved_alone, host_carried, host_exchanged_alone, host_exchanged, status_asked, changer_command_step, host_changer_step}
-use Rattle.device_server.specs.HostDrive.{mode_state, host_selects, host_loads, passed_bytes, counted, host_in_bay, drive_log, host_log_selects, host_command_step, host_drive_step}
+use Rattle.device_server.specs.HostDrive.{mode_state, host_selects, host_loads, passed_bytes, counted, host_on_tape, host_in_bay, drive_log, host_log_selects, host_command_step, host_drive_step}
 use Rattle.device_server.specs.View.{DeviceView, Drive, Changer, field_fault, drive_stepped, changer_stepped, stepped, performed}
 use Rattle.settled_laws.specs.Alike.{StepAlike, PerformAlike, AttendedAnswersAlike, ends, attends, performs, outcomes, device_after}
-use Rattle.settled_laws.proofs.Tapes.{Alike, on_tape_alike}
+use Rattle.settled_laws.proofs.Tapes.{Alike, on_tape_alike, host_on_tape_alike}
 use Rattle.settled_laws.proofs.Maps.{place_twice, elements_twice, same_refusal, same_mode_data, same_status, same_addresses, same_host_status, same_can_hold, same_exchange_refusal, moves_same, exchanges_same, of_result}
 pub use Rattle.settled_laws.proofs.Showing.{refuse_alike}
 
@@ -80,8 +81,8 @@ bay_alike false block_length hosts (Some v) r bytes = (sym (drive_twice (drive_o
 bay_alike true block_length hosts (Some v) r bytes =
     let none : ℕ = min 0 (length v.tape.objects) in
     volume_alike (drive_of (Some v) true block_length hosts) (drive_of (Some (settled_to 0 v)) true block_length hosts) v (settled_to 0 v)
-    (on_tape block_length v.protected v.tape r bytes) (on_tape block_length v.protected (settled v.tape none) r bytes) refl refl refl refl refl
-    (on_tape_alike block_length v.protected v.tape none r bytes)
+    (on_tape Spec block_length v.protected v.tape r bytes) (on_tape Spec block_length v.protected (settled v.tape none) r bytes) refl refl refl refl refl
+    (on_tape_alike Spec block_length v.protected v.tape none r bytes)
 
 loaded_alike : (loaded load : Bool) (block_length : ℕ) (hosts : Option HostDrive) (bay : Option Volume)
     → DriveAlike (loads (drive_of bay loaded block_length hosts) bay load)
@@ -124,15 +125,15 @@ host_bay_alike loaded block_length hosts h None r bytes = (refl, refl)
 host_bay_alike false block_length hosts h (Some v) r bytes = (sym (drive_twice (drive_of (Some v) false block_length hosts)), refl)
 host_bay_alike true block_length hosts h (Some v) r bytes =
     let none : ℕ = min 0 (length v.tape.objects) in
-    let alike = on_tape_alike block_length v.protected v.tape none r bytes in
+    let alike = host_on_tape_alike block_length v.protected v.tape none r bytes in
     let left : TapeView → ℕ → DeviceView = λ t sent. Drive (record {
       bay = Some (record v { tape = settled t (min 0 (length t.objects)) });
       loaded = true;
       block_length = block_length;
       hosts = Some (record h { counters = counted h.counters r (passed_bytes v.tape t) sent });
     }) in (
-      ap (λ (t : TapeView). left t (length (on_tape block_length v.protected v.tape r bytes).1.payload)) alike.0
-          ∙ ap (λ (o : Outcome). left (on_tape block_length v.protected (settled v.tape none) r bytes).0 (length o.payload)) alike.1,
+      ap (λ (t : TapeView). left t (length (host_on_tape block_length v.protected v.tape r bytes).1.payload)) alike.0
+          ∙ ap (λ (o : Outcome). left (host_on_tape block_length v.protected (settled v.tape none) r bytes).0 (length o.payload)) alike.1,
       alike.1,
     )
 
@@ -185,7 +186,7 @@ command_alike bay loaded block_length hosts h (host.LogSense ppc sp pc page subp
     ends_alike bay loaded block_length hosts _ _
     (ap (λ (log : DriveLog). answers l (drive_log_data (log_sense ppc sp page subpage pointer) log)) (log_same bay loaded block_length hosts h))
 command_alike bay loaded block_length hosts h (host.ModeSelect10 sp l) bytes =
-    selects_alike bay loaded block_length hosts h (mode.selected (mode_values block_length h.compression) block_limit Ten sp l bytes)
+    selects_alike bay loaded block_length hosts h (mode.selected (mode_values block_length h.compression) (most_block Hosts) Ten sp l bytes)
 command_alike bay loaded block_length hosts h (host.ModeSense10 dbd pc page subpage l) bytes =
     ends_alike bay loaded block_length hosts _ _
     (ap (λ (state : DriveState). answers l (drive_answer (mode_sense Ten dbd pc page subpage) state)) (state_same bay loaded block_length hosts h))
@@ -203,7 +204,7 @@ host_alike : (bay : Option Volume) (loaded : Bool) (block_length : ℕ) (hosts :
 unfolding drive_of
 host_alike bay loaded block_length hosts h request.ReadBlockLimits bytes = stays_alike bay loaded block_length hosts _
 host_alike bay loaded block_length hosts h (request.ModeSelect sp l) bytes =
-    selects_alike bay loaded block_length hosts h (mode.selected (mode_values block_length h.compression) block_limit Six sp l bytes)
+    selects_alike bay loaded block_length hosts h (mode.selected (mode_values block_length h.compression) (most_block Hosts) Six sp l bytes)
 host_alike bay loaded block_length hosts h (request.ModeSense dbd pc page subpage l) bytes =
     ends_alike bay loaded block_length hosts _ _
     (ap (λ (state : DriveState). answers l (drive_answer (mode_sense Six dbd pc page subpage) state)) (state_same bay loaded block_length hosts h))

@@ -7,10 +7,11 @@ use crate::fault::FlushFault;
 use crate::object::{object_at, part_length, write_object};
 use std::alloc::{AllocError, Global};
 use std::marker::Model;
+use tape_image::MAX_PART;
 use tape_medium::{Tape, TapeObject};
 
-/// The bytes that a part has at most, 1 MiB: more than the longest object takes.
-const PART: usize = 1_048_576;
+/// The bytes that a part has at most: as many as the longest object takes.
+const PART: usize = MAX_PART;
 
 /// Objects of a tape that follow one another, as an image has them: their bytes, and where each of them ends. One serves for part after
 /// part, so that its memory is taken once.

@@ -17,6 +17,9 @@ pub enum ReadTapeFault {
     /// objects that a tape has at most.
     #[error("image of more than the tape takes")]
     TooLarge { objects: u32 },
+    /// A block that is longer than those of the profile, at the offset `whole`, in bytes, after so many objects.
+    #[error("block too long")]
+    TooLong { objects: u64, whole: u64 },
 }
 
 impl From<AllocError> for ReadTapeFault {

@@ -6,10 +6,11 @@ ghost use Rattle.tape_image.specs.Walking.{part_objects};
 ghost use Rattle.tape_flush.specs.Readings.{object_of, tape_with, IsReadAs, IsReadFrom};
 
 use crate::read_fault::ReadTapeFault;
+use scsi_cdb::Profile;
 use std::alloc::Global;
 use std::io::Read;
 use tape_image::{ImageIndex, ImagePart, ImageReader, IndexedObject};
-use tape_medium::{MemoryLimit, Tape, TapeFault};
+use tape_medium::{MemoryLimit, Tape, TapeFault, most_block};
 
 /// A tape that was read from an image, and the index of the image, by which that is written on.
 #[derive(Drop)]
@@ -26,15 +27,15 @@ fn refusal(fault: TapeFault, objects: u32) -> ReadTapeFault {
     }
 }
 
-/// Writes the object that a part is, if it is one, after the others of a tape.
-fn put_part(tape: &mut Tape, part: &ImagePart<'_>) -> Result<(), ReadTapeFault>
+/// Writes the object that a part is, if it is one, after the others of a tape, in a library of a profile.
+fn put_part(profile: Profile, tape: &mut Tape, part: &ImagePart<'_>) -> Result<(), ReadTapeFault>
     requires { tape.old ≡ tape_with tape.old.capacity tape.old.objects }
     ensures { OnOk result (tape.new ≡ tape_with tape.old.capacity (tape.old.objects ++ object_of (part_value part.now))) }
 {
     let objects = tape.object_count();
     let put = match part {
-        ImagePart::Block(bytes, _) => tape.write_block(bytes),
-        ImagePart::Mark => tape.write_marks(1),
+        ImagePart::Block(bytes, _) => tape.write_block(profile, bytes),
+        ImagePart::Mark => tape.write_marks(profile, 1),
         _ => Ok(()),
     };
     match put {
@@ -64,9 +65,11 @@ fn note_part(
 
 /// The tape that an image holds, for `capacity` bytes of blocks, and the index of the image, which a reader gives from its first byte on.
 /// The tape is at its beginning, and all of its objects count as unchanged. Of a faulty image it has the objects before the fault. A block
-/// is two reads, so a file should be read through a buffer. The tape takes no more memory than the limit leaves.
+/// is two reads, so a file should be read through a buffer. The tape takes no more memory than the limit leaves. It has no longer block and
+/// no more objects than are written in a library of the profile.
 pub fn read_tape<R: Read>(
     alloc: Global,
+    profile: Profile,
     reader: &mut R,
     capacity: u64,
     memory: MemoryLimit,
@@ -81,6 +84,12 @@ pub fn read_tape<R: Read>(
     let mut objects = Vec::new(alloc);
     'parts: loop {
         image.await_part(reader)?;
+        if image.part().is_longer_than(most_block(profile)) {
+            return Err(ReadTapeFault::TooLong {
+                objects: image.objects(),
+                whole: image.offset(),
+            });
+        }
         if let Some(end) = image.end() {
             tape.rewind();
             tape.settle(tape.object_count());
@@ -89,7 +98,7 @@ pub fn read_tape<R: Read>(
         }
         let offset = image.offset();
         let part = image.part();
-        put_part(&mut tape, &part)?;
+        put_part(profile, &mut tape, &part)?;
         note_part(&mut objects, offset, &part)?;
         image.pass()?;
     }

@@ -1,5 +1,5 @@
 -- What an image begins with (SIMH Magtape Representation and Handling).
-use Rattle.std.specs.Prelude.{ℕ, ◌+◌, ◌==◌, nat_lt, nat_le, List, length, take, drop, if◌then◌else◌}
+use Rattle.std.specs.Prelude.{ℕ, ◌+◌, ◌==◌, nat_lt, nat_le, Bool, false, List, length, take, drop, if◌then◌else◌}
 use Rattle.byteorder.specs.Endian.{little_number}
 use Rattle.tape_medium.specs.Limits.{block_limit}
 use Rattle.tape_medium.specs.Object.{Object, Block, Mark}
@@ -39,3 +39,9 @@ measured word bytes =
 
 unfoldable pub image_part : (bytes : List ℕ) → PartValue
 image_part bytes = if nat_lt (length bytes) 4 then Partial 4 else measured (little_number 4 bytes) bytes
+
+-- a block of more than so many bytes, or the beginning of one, which wants as many and its two lengths
+abbrev pub is_longer : (most : ℕ) → PartValue → Bool
+is_longer most (Partial wanted) = nat_lt (4 + most + 4) wanted
+is_longer most (Complete (Block bytes) count) = nat_lt most (length bytes)
+is_longer most part = false

@@ -6,7 +6,7 @@ pub enum ImageFault {
     /// A record of a class other than 0: a length whose highest four bits are not zero, other than the marks.
     #[error("record of an unknown class")]
     UnknownClass,
-    /// A block of more than `MAX_BLOCK` bytes.
+    /// A block of more bytes than the tapes have that are wanted, or than any tape has.
     #[error("block too long")]
     TooLong,
     /// The length after a block isn't the one before it.

@@ -45,9 +45,13 @@ fn add_part(
     Ok(())
 }
 
-/// The index of an image, that a reader gives from its first byte on. It takes memory for the longest part, and for the index. A block is
-/// two reads, so a file should be read through a buffer.
-pub fn index_image<R: Read>(alloc: Global, reader: &mut R) -> Result<ImageIndex, IndexFault>
+/// The index of an image whose blocks have `most_block` bytes at the most, that a reader gives from its first byte on. It takes memory for
+/// the longest part, and for the index. A block is two reads, so a file should be read through a buffer.
+pub fn index_image<R: Read>(
+    alloc: Global,
+    most_block: u32,
+    reader: &mut R,
+) -> Result<ImageIndex, IndexFault>
     ensures read { IfOk result (λ index. IsReadIndex (R.remaining reader.old) (R.remaining reader.new) index.objects.items index.end) }
     ensures whole { IfOk result (λ index. IfSome (R.remaining reader.old) (λ bytes. IsIndexOf bytes index.objects.items index.end)) }
 {
@@ -55,6 +59,12 @@ pub fn index_image<R: Read>(alloc: Global, reader: &mut R) -> Result<ImageIndex,
     let mut objects = Vec::new(alloc);
     'parts: loop {
         image.await_part(reader)?;
+        if image.part().is_longer_than(most_block) {
+            return Err(IndexFault::TooLong {
+                objects: image.objects(),
+                whole: image.offset(),
+            });
+        }
         if let Some(end) = image.end() {
             return Ok(ImageIndex { objects, end });
         }

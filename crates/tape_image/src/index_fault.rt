@@ -13,6 +13,9 @@ pub enum IndexFault {
     Read,
     #[error("image of 2^64 bytes or more")]
     PastLastOffset,
+    /// A block that is longer than is wanted, at the offset `whole`, in bytes, after so many objects.
+    #[error("block too long")]
+    TooLong { objects: u64, whole: u64 },
 }
 
 impl From<AllocError> for IndexFault {

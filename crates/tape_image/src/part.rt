@@ -1,6 +1,6 @@
 ghost use Rattle.std.specs.Prelude.{◌≡◌, ◌≤◌, ◌+◌, length};
 ghost use Rattle.tape_medium.specs.Limits.{block_limit};
-ghost use Rattle.tape_image.specs.Parts.{image_part, measured, sized};
+ghost use Rattle.tape_image.specs.Parts.{image_part, measured, sized, is_longer};
 ghost use Rattle.tape_image.specs.Views.{part_value, IsWithin};
 
 use crate::fault::ImageFault;
@@ -21,6 +21,20 @@ pub enum ImagePart<'a> {
     /// The end of the medium, of four bytes: nothing after it counts.
     End,
     Invalid(ImageFault),
+}
+
+impl ImagePart<'_> {
+    /// Whether it is a block of more than so many bytes, or the beginning of one.
+    pub fn is_longer_than(&self, most: u32) -> bool
+        ensures { result ≡ is_longer most (part_value self.now) }
+    {
+        let most = most as usize;
+        match self {
+            ImagePart::Partial(wanted) => *wanted > LENGTH_FIELD + most + LENGTH_FIELD,
+            ImagePart::Block(bytes, _) => bytes.len() > most,
+            ImagePart::Mark | ImagePart::Gap | ImagePart::End | ImagePart::Invalid(_) => false,
+        }
+    }
 }
 
 /// A block of `size` bytes between its lengths.

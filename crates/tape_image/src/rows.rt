@@ -1,10 +1,10 @@
-ghost use Rattle.std.specs.Prelude.{◌≡◌, [], ◌∷◌, ◌++◌, take};
+ghost use Rattle.std.specs.Prelude.{◌≡◌, [], ◌∷◌, ◌++◌, take, true, false};
 ghost use Rattle.tape_medium.specs.Object.{Block, Mark};
 ghost use Rattle.tape_image.specs.declared.ending.ImageEnd.TheVariants.{WholeEnd, CutTail, Faulty};
 ghost use Rattle.tape_image.specs.declared.fault.ImageFault.TheVariants.{UnknownClass, TooLong, UnequalLengths};
 ghost use Rattle.tape_image.specs.Images.{object_bytes};
 ghost use Rattle.tape_image.specs.Limits.{part_limit};
-ghost use Rattle.tape_image.specs.Parts.{Partial, Complete, Gap, End, Invalid, image_part};
+ghost use Rattle.tape_image.specs.Parts.{Partial, Complete, Gap, End, Invalid, image_part, is_longer};
 ghost use Rattle.tape_image.specs.Reading.{Waiting, Ended, Broken, Reads, image_end};
 ghost use Rattle.tape_image.specs.Rows.{even, odd, mark, gap, end, hi, three, at_4};
 
@@ -19,7 +19,7 @@ pub fn part_rows()
     ensures read_mark { image_part (mark ++ even) ≡ Complete Mark 4 }
     ensures read_gap { image_part (gap ++ odd) ≡ Gap }
     ensures read_end { image_part (end ++ even) ≡ End }
-    ensures longest_part { part_limit ≡ 65544 }
+    ensures longest_part { part_limit ≡ 1048584 }
 {}
 
 /// Worked rows: faults.
@@ -27,8 +27,14 @@ pub fn part_rows()
 pub fn fault_rows()
     ensures other_length_behind { image_part (2 ∷ 0 ∷ 0 ∷ 0 ∷ 0x68 ∷ 0x69 ∷ 3 ∷ 0 ∷ 0 ∷ 0 ∷ []) ≡ Invalid UnequalLengths }
     ensures no_pad { image_part (3 ∷ 0 ∷ 0 ∷ 0 ∷ 0x6F ∷ 0x64 ∷ 0x64 ∷ 3 ∷ 0 ∷ 0 ∷ 0 ∷ 0 ∷ []) ≡ Invalid UnequalLengths }
-    ensures too_long { image_part (1 ∷ 0 ∷ 1 ∷ 0 ∷ []) ≡ Invalid TooLong }
-    ensures longest { image_part (0 ∷ 0 ∷ 1 ∷ 0 ∷ []) ≡ Partial 65544 }
+    ensures too_long { image_part (1 ∷ 0 ∷ 0x10 ∷ 0 ∷ []) ≡ Invalid TooLong }
+    ensures longest { image_part (0 ∷ 0 ∷ 0x10 ∷ 0 ∷ []) ≡ Partial 1048584 }
+    ensures of_64_kibibytes { image_part (0 ∷ 0 ∷ 1 ∷ 0 ∷ []) ≡ Partial 65544 }
+    ensures not_longer { is_longer 65536 (image_part (0 ∷ 0 ∷ 1 ∷ 0 ∷ [])) ≡ false }
+    ensures longer { is_longer 65536 (image_part (1 ∷ 0 ∷ 1 ∷ 0 ∷ [])) ≡ true }
+    ensures whole_not_longer { is_longer 3 (image_part odd) ≡ false }
+    ensures whole_longer { is_longer 2 (image_part odd) ≡ true }
+    ensures no_block { is_longer 2 (image_part mark) ≡ false }
     ensures longest_of_class_0 { image_part (0xFF ∷ 0xFF ∷ 0xFF ∷ 0x0F ∷ []) ≡ Invalid TooLong }
     ensures bad_data_record { image_part (2 ∷ 0 ∷ 0 ∷ 0x80 ∷ []) ≡ Invalid UnknownClass }
     ensures private_record { image_part (2 ∷ 0 ∷ 0 ∷ 0x10 ∷ []) ≡ Invalid UnknownClass }

@@ -14,9 +14,9 @@ pub trait KeepListener {
     fn settled(&self);
 }
 
-/// A command that ended GOOD, as far as a keeper of tapes looks at it.
+/// A command that was carried out, as far as a keeper of tapes looks at it.
 #[derive(Clone, Copy)]
-pub struct GoodCommand {
+pub struct CarriedOutCommand {
     pub lun: u8,
     pub class: Class,
     /// Whether its reply needn't wait for the medium.
@@ -50,13 +50,13 @@ pub trait TapeKeeper {
     /// Whether the reply to a command of a class says that something is kept.
     ghost says_kept: { Class → Bool };
 
-    /// Begins to keep what a command left that ended GOOD, and gives the ticket that its reply has to wait for, if it has to wait. This waits for
-    /// nothing but locks that are held for a moment.
+    /// Begins to keep what a command left that was carried out, and gives the ticket that its reply has to wait for, if it has to wait.
+    /// This waits for nothing but locks that are held for a moment.
     fn begin<R: Wait, H: KeepListener>(
         &self,
         rt: &R,
         listener: &H,
-        command: GoodCommand,
+        command: CarriedOutCommand,
     ) -> Option<Ticket>
         ensures { command.is_immediate ≡ false → says_kept command.class ≡ true → is_some result ≡ true };
 
@@ -100,7 +100,7 @@ impl TapeKeeper for NoKeeper {
         &self,
         _rt: &R,
         _listener: &H,
-        _command: GoodCommand,
+        _command: CarriedOutCommand,
     ) -> Option<Ticket> {
         None
     }

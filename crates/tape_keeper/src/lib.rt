@@ -6,5 +6,5 @@ mod keeper;
 mod source;
 
 pub use event::{KeepChange, KeepEvent, KeepFault, SavedThing};
-pub use keeper::{GoodCommand, KeepListener, KeepPlace, NoKeeper, TapeKeeper};
+pub use keeper::{CarriedOutCommand, KeepListener, KeepPlace, NoKeeper, TapeKeeper};
 pub use source::TapeSource;

@@ -1,4 +1,6 @@
 use Rattle.std.specs.Prelude.{◌≡◌, ℕ, ℤ, pos, negsuc, List, length, [], ◌∷◌, ◌++◌, replicate, Option, Some, None, Ok, Err, true, false}
+use Rattle.scsi_cdb.specs.declared.profile.Profile.{Profile}
+use Rattle.scsi_cdb.specs.declared.profile.Profile.TheVariants.{Spec, Hosts}
 use Rattle.tape_medium.specs.Object.{Block, Mark}
 use Rattle.tape_medium.specs.TapeView.{TapeView}
 use Rattle.tape_medium.specs.Tape.{blank, moved_to, settled, erased, writes_block, writes_blocks, writes_marks, object_at, item_of, bytes_of, passed}
@@ -51,9 +53,9 @@ abbrev pub six : TapeView
 six = record { objects = Block (replicate 6 1) ∷ []; position = 1; capacity = 10; unchanged = 0 }
 
 pub record OverflowKeepsTape : Type 0 where
-  pub first : writes_block (blank 10) (replicate 6 1) ≡ Ok six
-  pub full : writes_block six (replicate 5 2) ≡ Err Overflow
-  pub again : writes_block (moved_to six 0) (replicate 10 3) ≡ Ok (record { objects = Block (replicate 10 3) ∷ []; position = 1; capacity = 10; unchanged = 0 })
+  pub first : writes_block Spec (blank 10) (replicate 6 1) ≡ Ok six
+  pub full : writes_block Spec six (replicate 5 2) ≡ Err Overflow
+  pub again : writes_block Spec (moved_to six 0) (replicate 10 3) ≡ Ok (record { objects = Block (replicate 10 3) ∷ []; position = 1; capacity = 10; unchanged = 0 })
 
 -- two blocks and a filemark, the first so many of them unchanged
 abbrev pub three : (position unchanged : ℕ) → TapeView
@@ -67,10 +69,10 @@ pub record UnchangedBeforeThePosition : Type 0 where
   pub moved : moved_to (three 3 3) 0 ≡ three 0 3
   pub cut : erased (three 1 3) ≡ record (three 1 1) { objects = Block (1 ∷ []) ∷ [] }
   pub cut_behind : erased (three 2 1) ≡ record (three 2 1) { objects = Block (1 ∷ []) ∷ Block (2 ∷ []) ∷ [] }
-  pub written : writes_block (three 1 3) (2 ∷ []) ≡ Ok (record (three 2 1) { objects = Block (1 ∷ []) ∷ Block (2 ∷ []) ∷ [] })
-  pub written_behind : writes_marks (three 3 3) 1 ≡ Ok (record (three 4 3) { objects = Block (1 ∷ []) ∷ Block (2 ∷ []) ∷ Mark ∷ Mark ∷ [] })
-  pub nothing_written : writes_marks (three 1 3) 0 ≡ Ok (three 1 3)
-  pub not_written : writes_block (three 1 3) (replicate 11 5) ≡ Err Overflow
+  pub written : writes_block Spec (three 1 3) (2 ∷ []) ≡ Ok (record (three 2 1) { objects = Block (1 ∷ []) ∷ Block (2 ∷ []) ∷ [] })
+  pub written_behind : writes_marks Spec (three 3 3) 1 ≡ Ok (record (three 4 3) { objects = Block (1 ∷ []) ∷ Block (2 ∷ []) ∷ Mark ∷ Mark ∷ [] })
+  pub nothing_written : writes_marks Spec (three 1 3) 0 ≡ Ok (three 1 3)
+  pub not_written : writes_block Spec (three 1 3) (replicate 11 5) ≡ Err Overflow
 
 -- one data transfer element, two storage elements, a volume in the first of these
 abbrev pub one_drive : VolumeTag → Elements
@@ -170,10 +172,25 @@ lowest = negsuc 2147483647
 -- what no host's write has: no bytes, no length, a part of a block, and blocks that are too long
 pub record TapesBySizes : Type 0 where
   pub back_by_the_lowest : spaced Marks (block_and_mark 2) lowest ≡ (block_and_mark 0, space_end 1 AtStart)
-  pub nothing : writes_blocks (blank 200000) [] 1 ≡ Ok (blank 200000)
-  pub no_length : writes_blocks (blank 200000) (replicate 4 7) 0 ≡ Err BlockLength
-  pub nothing_of_no_length : writes_blocks (blank 200000) [] 0 ≡ Err BlockLength
-  pub part_of_a_block : writes_blocks (blank 200000) (replicate 7 7) 2 ≡ Err BlockLength
-  pub too_long_blocks : (bytes : List ℕ) → length bytes ≡ 131074 → writes_blocks (blank 200000) bytes 65537 ≡ Err BlockLength
-  pub empty_block : (tape : TapeView) → writes_block tape [] ≡ Err BlockLength
-  pub too_long_a_block : (tape : TapeView) (bytes : List ℕ) → length bytes ≡ 65537 → writes_block tape bytes ≡ Err BlockLength
+  pub nothing : writes_blocks Spec (blank 200000) [] 1 ≡ Ok (blank 200000)
+  pub no_length : writes_blocks Spec (blank 200000) (replicate 4 7) 0 ≡ Err BlockLength
+  pub nothing_of_no_length : writes_blocks Spec (blank 200000) [] 0 ≡ Err BlockLength
+  pub part_of_a_block : writes_blocks Spec (blank 200000) (replicate 7 7) 2 ≡ Err BlockLength
+  pub too_long_blocks : (bytes : List ℕ) → length bytes ≡ 131074 → writes_blocks Spec (blank 200000) bytes 65537 ≡ Err BlockLength
+  pub empty_block : (profile : Profile) (tape : TapeView) → writes_block profile tape [] ≡ Err BlockLength
+  pub too_long_a_block : (tape : TapeView) (bytes : List ℕ) → length bytes ≡ 65537 → writes_block Spec tape bytes ≡ Err BlockLength
+
+-- the longest blocks of either profile, and the most objects: 64 KiB and a million, 1 MiB and 16 Mi.
+pub record LimitsOfProfiles : Type 0 where
+  pub longest : (bytes : List ℕ) → length bytes ≡ 65536 → writes_block Spec (blank 2097152) bytes ≡ Ok (record { objects = Block bytes ∷ []; position = 1; capacity = 2097152; unchanged = 0 })
+  pub longest_for_hosts : (bytes : List ℕ) → length bytes ≡ 1048576
+      → writes_block Hosts (blank 2097152) bytes ≡ Ok (record { objects = Block bytes ∷ []; position = 1; capacity = 2097152; unchanged = 0 })
+  pub of_hosts_alone : (bytes : List ℕ) → length bytes ≡ 65537
+      → writes_block Hosts (blank 2097152) bytes ≡ Ok (record { objects = Block bytes ∷ []; position = 1; capacity = 2097152; unchanged = 0 })
+  pub too_long_for_hosts : (tape : TapeView) (bytes : List ℕ) → length bytes ≡ 1048577 → writes_block Hosts tape bytes ≡ Err BlockLength
+  pub too_long_in_many : (bytes : List ℕ) → length bytes ≡ 2097154 → writes_blocks Hosts (blank 4194304) bytes 1048577 ≡ Err BlockLength
+  pub full : writes_marks Spec (moved_to (blank 1000) 1000000) 1 ≡ Err Overflow
+  pub not_full_for_hosts : writes_marks Hosts (moved_to (blank 1000) 1000000) 1 ≡ Ok (record { objects = Mark ∷ []; position = 1000001; capacity = 1000; unchanged = 0 })
+  pub last_for_hosts : writes_marks Hosts (moved_to (blank 1000) 16777215) 1 ≡ Ok (record { objects = Mark ∷ []; position = 16777216; capacity = 1000; unchanged = 0 })
+  pub full_for_hosts : writes_marks Hosts (moved_to (blank 1000) 16777216) 1 ≡ Err Overflow
+  pub too_many_for_hosts : writes_marks Hosts (moved_to (blank 1000) 16777215) 2 ≡ Err Overflow

@@ -1,5 +1,6 @@
 use Rattle.std.specs.Prelude.{◌≡◌, ◌⊎◌, ℕ, ◌+◌, ◌/◌, ◌%◌, zero, suc, Bool, true, false, ◌&&◌, ◌==◌, nat_le, min, List, [], ◌∷◌, ◌++◌, length, take, drop, replicate, sum_by, slice_get, Option, Some, None, Result, Ok, Err, IsOk, if◌then◌else◌}
-use Rattle.tape_medium.specs.Limits.{block_limit, object_limit}
+use Rattle.scsi_cdb.specs.declared.profile.Profile.{Profile}
+use Rattle.tape_medium.specs.Limits.{most_block, most_objects}
 use Rattle.tape_medium.specs.Object.{Object, Block, Mark}
 use Rattle.tape_medium.specs.TapeView.{TapeView}
 use Rattle.tape_medium.specs.declared.item.Item.{Item}
@@ -42,24 +43,24 @@ settled t count = record t { unchanged = count }
 abbrev pub unchanged_behind : TapeView → ℕ
 unchanged_behind t = min t.unchanged t.position
 
--- WRITING. The objects are put at the position, all that lay after is dropped, and the position is behind them.
+-- WRITING, in a library of a profile. The objects are put at the position, all that lay after is dropped, and the position is behind them.
 abbrev pub written : TapeView → List Object → TapeView
 written t more =
     record t { objects = behind t ++ more; position = t.position + length more; unchanged = unchanged_behind t }
 
 -- what lies after the position doesn't count
-abbrev pub fits : TapeView → List Object → Bool
-fits t more = nat_le (bytes_in (behind t) + bytes_in more) t.capacity && nat_le (t.position + length more) object_limit
+abbrev pub fits : Profile → TapeView → List Object → Bool
+fits profile t more = nat_le (bytes_in (behind t) + bytes_in more) t.capacity && nat_le (t.position + length more) (most_objects profile)
 
-abbrev pub writes : TapeView → List Object → Result TapeView TapeFault
-writes t more = if fits t more then Ok (written t more) else Err Overflow
+abbrev pub writes : Profile → TapeView → List Object → Result TapeView TapeFault
+writes profile t more = if fits profile t more then Ok (written t more) else Err Overflow
 
-abbrev pub is_block_length : ℕ → Bool
-is_block_length n = nat_le 1 n && nat_le n block_limit
+abbrev pub is_block_length : Profile → ℕ → Bool
+is_block_length profile n = nat_le 1 n && nat_le n (most_block profile)
 
 -- one block
-abbrev pub writes_block : TapeView → List ℕ → Result TapeView TapeFault
-writes_block t bytes = if is_block_length (length bytes) then writes t (Block bytes ∷ []) else Err BlockLength
+abbrev pub writes_block : Profile → TapeView → List ℕ → Result TapeView TapeFault
+writes_block profile t bytes = if is_block_length profile (length bytes) then writes profile t (Block bytes ∷ []) else Err BlockLength
 
 -- so many blocks of one size, cut from the front of the bytes
 abbrev pub blocks : ℕ → ℕ → List ℕ → List Object
@@ -70,18 +71,18 @@ abbrev pub is_whole : ℕ → List ℕ → Bool
 is_whole size bytes = length bytes % size == 0
 
 -- whole blocks of one size: all or none
-abbrev pub writes_blocks : TapeView → List ℕ → ℕ → Result TapeView TapeFault
-writes_blocks t bytes size =
-    if is_block_length size && is_whole size bytes
-    then (if length bytes == 0 then Ok t else writes t (blocks size (length bytes / size) bytes))
+abbrev pub writes_blocks : Profile → TapeView → List ℕ → ℕ → Result TapeView TapeFault
+writes_blocks profile t bytes size =
+    if is_block_length profile size && is_whole size bytes
+    then (if length bytes == 0 then Ok t else writes profile t (blocks size (length bytes / size) bytes))
     else Err BlockLength
 
 abbrev pub marks : ℕ → List Object
 marks count = replicate count Mark
 
 -- so many filemarks
-abbrev pub writes_marks : TapeView → ℕ → Result TapeView TapeFault
-writes_marks t count = if count == 0 then Ok t else writes t (marks count)
+abbrev pub writes_marks : Profile → TapeView → ℕ → Result TapeView TapeFault
+writes_marks profile t count = if count == 0 then Ok t else writes profile t (marks count)
 
 -- why a write failed: for the definition's reason, or for want of memory where the definition has none
 abbrev pub IsFaultOf : Result TapeView TapeFault → TapeFault → Type 0

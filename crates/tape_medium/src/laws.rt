@@ -1,6 +1,6 @@
 //! Worked rows that the definitions compute to, and laws of every call. Each function has an empty body: its clause is the row or the law.
 
-ghost use Rattle.tape_medium.specs.Rows.{ReadsOfOtherLength, SpacesBothWays, OverflowKeepsTape, UnchangedBeforeThePosition, ElementStatusOfOneDrive, MovesOfOneDrive, VolumesOfAChanger, StatusOfAPort, ElementsOfTwoDrives, TapesBySizes};
+ghost use Rattle.tape_medium.specs.Rows.{ReadsOfOtherLength, SpacesBothWays, OverflowKeepsTape, UnchangedBeforeThePosition, ElementStatusOfOneDrive, MovesOfOneDrive, VolumesOfAChanger, StatusOfAPort, ElementsOfTwoDrives, TapesBySizes, LimitsOfProfiles};
 ghost use Rattle.tape_medium.specs.Changes.{UnchangedStayInFront};
 ghost use Rattle.tape_medium.specs.Volumes.{TakesOne, AddsOne, KeepsAll, NotesMoveNothing};
 ghost use Rattle.tape_medium.specs.declared.volume.VolumeTag.{VolumeTag};
@@ -18,6 +18,11 @@ pub fn spaces_both_ways()
 /// A write past the capacity leaves the tape, and what lies after the position doesn't count.
 pub fn overflow_keeps_tape()
     ensures { OverflowKeepsTape }
+{}
+
+/// The longest blocks and the most objects of each profile, and one byte and one object more.
+pub fn limits_of_profiles()
+    ensures { LimitsOfProfiles }
 {}
 
 /// Law: whatever is done to a tape since it was settled, the objects that it tells to be unchanged are the first of those that it had

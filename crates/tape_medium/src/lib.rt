@@ -20,7 +20,7 @@ mod volume;
 pub use elements::{FIRST_DATA_TRANSFER, FIRST_IMPORT_EXPORT, FIRST_STORAGE, MapFault, TRANSPORT};
 pub use fault::TapeFault;
 pub use item::Item;
-pub use limits::{MAX_BLOCK, MAX_CAPACITY, MAX_OBJECTS};
+pub use limits::{MAX_BLOCK, MAX_CAPACITY, MAX_OBJECTS, most_block, most_objects};
 pub use memory::MemoryLimit;
 pub use object::TapeObject;
 pub use space::{SpaceCode, SpaceEnd, Stop};

@@ -10,12 +10,13 @@ ghost use Rattle.tape_medium.specs.Tape.{blank, behind, bytes_in, settled, write
 
 use crate::fault::TapeFault;
 use crate::item::Item;
-use crate::limits::{MAX_BLOCK, MAX_OBJECTS};
+use crate::limits::{most_block, most_objects};
 use crate::memory::MemoryLimit;
 use crate::object::TapeObject;
 use crate::passage::pass_objects;
 use crate::space::{SpaceCode, SpaceEnd, Stop};
 use crate::store::Store;
+use scsi_cdb::Profile;
 use std::alloc::Global;
 use std::marker::Model;
 
@@ -169,19 +170,19 @@ impl Tape {
         self.unchanged = self.unchanged.min(self.position);
     }
 
-    /// Writes one block at the position and drops all that lay after (SSC-4, "WRITE(6) command").
-    pub fn write_block(&mut self, block: &[u8]) -> Result<(), TapeFault>
-        ensures ok { OnOk result (writes_block self.old block.now ≡ Ok self.new) }
-        ensures fault { IfErr result (IsFaultOf (writes_block self.old block.now)) }
+    /// Writes one block at the position and drops all that lay after (SSC-4, "WRITE(6) command"), in a library of a profile.
+    pub fn write_block(&mut self, profile: Profile, block: &[u8]) -> Result<(), TapeFault>
+        ensures ok { OnOk result (writes_block profile self.old block.now ≡ Ok self.new) }
+        ensures fault { IfErr result (IsFaultOf (writes_block profile self.old block.now)) }
         ensures err { OnErr result (self.new ≡ self.old) }
     {
-        if block.is_empty() || block.len() > MAX_BLOCK as usize {
+        if block.is_empty() || block.len() > most_block(profile) as usize {
             return Err(TapeFault::BlockLength);
         }
         if self.store.bytes_before(self.position) + block.len() > self.capacity {
             return Err(TapeFault::Overflow);
         }
-        if self.position + 1 > MAX_OBJECTS as usize {
+        if self.position + 1 > most_objects(profile) as usize {
             return Err(TapeFault::Overflow);
         }
         if self
@@ -196,16 +197,21 @@ impl Tape {
         Ok(())
     }
 
-    /// Writes whole blocks of `size` bytes at the position, all or none, and drops all that lay after. No bytes are
-    /// no blocks: they change nothing, and take no memory.
+    /// Writes whole blocks of `size` bytes at the position, all or none, and drops all that lay after, in a library of a profile. No bytes
+    /// are no blocks: they change nothing, and take no memory.
     #[tactic(auto, using(crate::proofs::BlockLemmas::block_sizes))]
-    pub fn write_blocks(&mut self, bytes: &[u8], size: u32) -> Result<(), TapeFault>
-        ensures ok { OnOk result (writes_blocks self.old bytes.now size ≡ Ok self.new) }
-        ensures fault { IfErr result (IsFaultOf (writes_blocks self.old bytes.now size)) }
+    pub fn write_blocks(
+        &mut self,
+        profile: Profile,
+        bytes: &[u8],
+        size: u32,
+    ) -> Result<(), TapeFault>
+        ensures ok { OnOk result (writes_blocks profile self.old bytes.now size ≡ Ok self.new) }
+        ensures fault { IfErr result (IsFaultOf (writes_blocks profile self.old bytes.now size)) }
         ensures memory { IsErrOf result TapeFault.NoMemory → 0 < length bytes.now }
         ensures err { OnErr result (self.new ≡ self.old) }
     {
-        if size == 0 || size > MAX_BLOCK {
+        if size == 0 || size > most_block(profile) {
             return Err(TapeFault::BlockLength);
         }
         if bytes.len() % size as usize != 0 {
@@ -218,7 +224,7 @@ impl Tape {
         if self.store.bytes_before(self.position) + bytes.len() > self.capacity {
             return Err(TapeFault::Overflow);
         }
-        if self.position + count > MAX_OBJECTS as usize {
+        if self.position + count > most_objects(profile) as usize {
             return Err(TapeFault::Overflow);
         }
         match self
@@ -233,11 +239,11 @@ impl Tape {
         Ok(())
     }
 
-    /// Writes `count` filemarks at the position and drops all that lay after (SSC-4, "WRITE FILEMARKS(6) command").
-    /// A count of 0 changes nothing, and takes no memory.
-    pub fn write_marks(&mut self, count: u32) -> Result<(), TapeFault>
-        ensures ok { OnOk result (writes_marks self.old count ≡ Ok self.new) }
-        ensures fault { IfErr result (IsFaultOf (writes_marks self.old count)) }
+    /// Writes `count` filemarks at the position and drops all that lay after (SSC-4, "WRITE FILEMARKS(6) command"), in a library of a
+    /// profile. A count of 0 changes nothing, and takes no memory.
+    pub fn write_marks(&mut self, profile: Profile, count: u32) -> Result<(), TapeFault>
+        ensures ok { OnOk result (writes_marks profile self.old count ≡ Ok self.new) }
+        ensures fault { IfErr result (IsFaultOf (writes_marks profile self.old count)) }
         ensures memory { IsErrOf result TapeFault.NoMemory → 0 < count }
         ensures err { OnErr result (self.new ≡ self.old) }
     {
@@ -245,7 +251,7 @@ impl Tape {
             return Ok(());
         }
         let count = count as usize;
-        if self.position + count > MAX_OBJECTS as usize {
+        if self.position + count > most_objects(profile) as usize {
             return Err(TapeFault::Overflow);
         }
         if self.store.put_marks(self.position, count).is_err() {

@@ -4,7 +4,7 @@ ghost use Rattle.std.specs.Prelude.{◌≡◌, false, None, IfOk, OnErr};
 ghost use Rattle.scsi_cdb.specs.declared.kind.Kind.TheVariants as kind;
 ghost use Rattle.device_server.specs.Fields.{spec_field_fault, mode_select_fault};
 ghost use Rattle.device_server.specs.Mode.{block_length_after};
-ghost use Rattle.device_server.specs.Drive.{on_tape};
+ghost use Rattle.device_server.specs.Drive.{block_limits, on_tape};
 ghost use Rattle.device_server.specs.Volumes.{is_move};
 
 use crate::mode::{block_length_after, mode_data};
@@ -19,8 +19,15 @@ use std::alloc::{AllocError, Global};
 use std::marker::Model;
 use tape_medium::{Tape, Volume, VolumeTag};
 
-/// The data of READ BLOCK LIMITS: no granularity, and blocks of 1 to 65,536 bytes (SSC-4, "READ BLOCK LIMITS command").
-pub(crate) const BLOCK_LIMITS: [u8; 6] = [0x00, 0x01, 0x00, 0x00, 0x00, 0x01];
+/// The data of READ BLOCK LIMITS: no granularity, and blocks of one byte at least (SSC-4, "READ BLOCK LIMITS command").
+pub(crate) fn block_limits(profile: Profile) -> [u8; 6]
+    ensures { result ≡ block_limits profile }
+{
+    match profile {
+        Profile::Spec => [0x00, 0x01, 0x00, 0x00, 0x00, 0x01],
+        Profile::Hosts => [0x00, 0x10, 0x00, 0x00, 0x00, 0x01],
+    }
+}
 
 /// A tape drive with one bay. A volume in it is loaded or not; the block length of the mode is 0 for blocks of any length.
 #[derive(Drop)]
@@ -82,7 +89,7 @@ impl TapeDrive {
     {
         match request {
             Request::ReadBlockLimits => {
-                Ok(Outcome::good(Payload::copied(alloc, &BLOCK_LIMITS)?))
+                Ok(Outcome::good(Payload::copied(alloc, &block_limits(Profile::Spec))?))
             }
             Request::ModeSelect {
                 save_pages,
@@ -198,6 +205,7 @@ impl TapeDrive {
                 }
                 on_tape(
                     alloc,
+                    Profile::Spec,
                     &mut volume.tape,
                     volume.protected,
                     self.block_length,
@@ -322,16 +330,17 @@ impl DeviceServer for TapeDrive {
     }
 }
 
-/// A command on the tape of a volume that is loaded.
+/// A command on the tape of a volume that is loaded, in a drive of a profile.
 pub(crate) fn on_tape(
     alloc: Global,
+    profile: Profile,
     tape: &mut Tape,
     protected: bool,
     block_length: u32,
     request: &Request,
     bytes: &[u8],
 ) -> Result<Outcome, AllocError>
-    ensures ok { IfOk result (λ outcome. on_tape block_length protected tape.old request.now bytes.now ≡ (tape.new, outcome)) }
+    ensures ok { IfOk result (λ outcome. on_tape profile block_length protected tape.old request.now bytes.now ≡ (tape.new, outcome)) }
     ensures err { OnErr result (tape.new ≡ tape.old) }
     ensures want { OnErr result (is_move request.now ≡ false) }
 {
@@ -356,16 +365,17 @@ pub(crate) fn on_tape(
             fixed: true,
             transfer_length,
             ..
-        } => read_blocks(alloc, tape, block_length, *transfer_length),
+        } => read_blocks(alloc, profile, tape, block_length, *transfer_length),
         Request::Write {
             fixed: false,
             transfer_length,
-        } => write_block(alloc, tape, protected, *transfer_length, bytes),
+        } => write_block(alloc, profile, tape, protected, *transfer_length, bytes),
         Request::Write {
             fixed: true,
             transfer_length,
         } => write_blocks(
             alloc,
+            profile,
             tape,
             protected,
             block_length,
@@ -374,6 +384,7 @@ pub(crate) fn on_tape(
         ),
         Request::WriteFilemarks { filemark_count, .. } => write_filemarks(
             alloc,
+            profile,
             tape,
             protected,
             *filemark_count,

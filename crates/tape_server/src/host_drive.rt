@@ -2,7 +2,8 @@
 
 ghost use Rattle.std.specs.Prelude.{◌≡◌, false, IfOk, OnErr, length, take};
 ghost use Rattle.scsi_cdb.specs.declared.kind.Kind.TheVariants as kind;
-ghost use Rattle.tape_medium.specs.Limits.{block_limit};
+ghost use Rattle.scsi_cdb.specs.declared.profile.Profile.TheVariants.{Hosts};
+ghost use Rattle.tape_medium.specs.Limits.{most_block};
 ghost use Rattle.mode_pages.specs.DriveData.{drive_answer};
 ghost use Rattle.mode_pages.specs.Select as mode;
 ghost use Rattle.log_pages.specs.LogSelect as log;
@@ -13,18 +14,19 @@ ghost use Rattle.device_server.specs.Outcomes.{answers};
 ghost use Rattle.device_server.specs.HostDrive.{mode_of, mode_state, is_other_mode, host_selects, told_of_load, host_loads, not_ready, host_in_bay, drive_log, host_log_selects, host_command_step, host_drive_step};
 ghost use Rattle.device_server.specs.Volumes.{is_exchange, is_move};
 
-use crate::drive::{BLOCK_LIMITS, TapeDrive, on_tape};
+use crate::drive::{TapeDrive, block_limits};
+use crate::early_warning::host_on_tape;
 use crate::logs::{counted, volume_log};
 use device_server::{
     HostDrive, Outcome, Payload, codes_answer, log_query, mode_query, told_of_log,
 };
 use log_pages::{DriveLog, LogSelect, LogSense, drive_log_data};
 use mode_pages::{DriveState, HeaderForm, ModeSense, ModeValues, drive_mode_data};
-use scsi_cdb::{HostRequest, Kind, Request};
+use scsi_cdb::{HostRequest, Kind, Profile, Request};
 use scsi_sense::Condition;
 use std::alloc::{AllocError, Global};
 use supported_commands::supported_task_management;
-use tape_medium::MAX_BLOCK;
+use tape_medium::most_block;
 use unit_attention::Kind as Attention;
 
 impl TapeDrive {
@@ -42,7 +44,7 @@ impl TapeDrive {
     {
         match request {
             Request::ReadBlockLimits => {
-                Ok(Outcome::good(Payload::copied(alloc, &BLOCK_LIMITS)?))
+                Ok(Outcome::good(Payload::copied(alloc, &block_limits(Profile::Hosts))?))
             }
             Request::ModeSelect {
                 save_pages,
@@ -209,10 +211,11 @@ impl TapeDrive {
         list_length: u16,
         list: &[u8],
     ) -> Outcome
-        ensures { host_selects self.old hosts (mode.selected (mode_of self.old hosts) block_limit form save_pages list_length list.now) ≡ (self.new, result) }
+        ensures { host_selects self.old hosts (mode.selected (mode_of self.old hosts) (most_block Hosts) form save_pages list_length list.now) ≡ (self.new, result) }
     {
         let before = self.mode(hosts);
-        match mode_pages::selected(before, MAX_BLOCK, form, save_pages, list_length, list) {
+        let most = most_block(Profile::Hosts);
+        match mode_pages::selected(before, most, form, save_pages, list_length, list) {
             Ok(values) => {
                 self.block_length = values.block_length;
                 self.hosts = Some(HostDrive {
@@ -292,7 +295,7 @@ impl TapeDrive {
                     return Ok(Outcome::check(alloc, not_ready(hosts.held)));
                 }
                 let before = volume.tape.bytes_before_position();
-                let outcome = on_tape(
+                let outcome = host_on_tape(
                     alloc,
                     &mut volume.tape,
                     volume.protected,

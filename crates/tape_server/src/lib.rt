@@ -2,6 +2,7 @@
 #![tactic(auto)]
 
 mod drive;
+mod early_warning;
 mod host_drive;
 mod logs;
 mod mode;

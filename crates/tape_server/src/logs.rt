@@ -3,6 +3,7 @@
 ghost use Rattle.std.specs.Prelude.{◌≡◌};
 ghost use Rattle.device_server.specs.HostDrive.{counted, volume_log};
 
+use crate::early_warning::zone;
 use log_pages::{LogCounters, VolumeLog};
 use scsi_cdb::Request;
 use tape_medium::Volume;
@@ -47,10 +48,11 @@ pub(crate) fn counted(
 pub(crate) fn volume_log(volume: &Volume) -> VolumeLog
     ensures { result ≡ volume_log volume.now }
 {
+    let capacity = volume.tape.capacity();
     VolumeLog {
-        capacity: volume.tape.capacity(),
+        capacity,
         to_end_of_data: volume.tape.byte_count(),
         position: volume.tape.bytes_before_position(),
-        early_warning: 0,
+        early_warning: zone(capacity),
     }
 }

@@ -3,7 +3,9 @@
 ghost use Rattle.std.specs.Prelude.{◌≡◌, IfOk, unsigned_abs};
 ghost use Rattle.tape_medium.specs.Space.{spaced};
 ghost use Rattle.device_server.specs.Drive.{space_code, space_ended, stopped, locates, position_data};
+ghost use Rattle.device_server.specs.HostDrive.{host_position_data};
 
+use crate::early_warning::is_in_zone;
 use crate::sense::{at_beginning, at_end_of_data, at_mark};
 use device_server::{Outcome, Payload};
 use scsi_sense::Condition;
@@ -63,6 +65,21 @@ pub(crate) fn position_data(alloc: Global, position: u32) -> Result<Payload, All
     let beginning = if position == 0 { 0x80 } else { 0x00 };
     let bytes = [
         beginning, 0, 0, 0, p3, p2, p1, p0, p3, p2, p1, p0, 0, 0, 0, 0, 0, 0, 0, 0,
+    ];
+    Payload::copied(alloc, &bytes)
+}
+
+/// The same in the hosts' profile, which also tells of the early-warning zone.
+pub(crate) fn host_position_data(alloc: Global, tape: &Tape) -> Result<Payload, AllocError>
+    ensures { IfOk result (λ payload. payload ≡ host_position_data tape.now) }
+{
+    let position = tape.position();
+    let [p3, p2, p1, p0] = position.to_be_bytes();
+    let beginning = if position == 0 { 0x80 } else { 0x00 };
+    let near_the_end = if is_in_zone(tape) { 0x40 } else { 0x00 };
+    let flags: u8 = beginning + near_the_end;
+    let bytes = [
+        flags, 0, 0, 0, p3, p2, p1, p0, p3, p2, p1, p0, 0, 0, 0, 0, 0, 0, 0, 0,
     ];
     Payload::copied(alloc, &bytes)
 }

@@ -11,9 +11,10 @@ ghost use Rattle.tape_server.specs.Steps.{is_block, is_item_of, met, whole_bytes
 
 use crate::sense::{at_end_of_data, at_mark, of_other_length};
 use device_server::{Outcome, Payload};
+use scsi_cdb::Profile;
 use scsi_sense::Condition;
 use std::alloc::{AllocError, Global};
-use tape_medium::{Item, MAX_BLOCK, Tape};
+use tape_medium::{Item, Tape, most_block};
 
 /// Reads one block of any length.
 pub(crate) fn read_block(
@@ -64,26 +65,29 @@ fn one_block(
     Outcome::ended(of_other_length(asked.wrapping_sub(had)), payload)
 }
 
-/// Whether a drive does a transfer of so many blocks of the mode's length: there is such a length, and the whole isn't too long.
-pub(crate) fn is_fixed_transfer(block_length: u32, count: u32) -> bool
-    ensures { result ≡ is_fixed_transfer block_length count }
+/// Whether a drive of a profile does a transfer of so many blocks of the mode's length: there is such a length, and the whole isn't too
+/// long.
+pub(crate) fn is_fixed_transfer(profile: Profile, block_length: u32, count: u32) -> bool
+    ensures { result ≡ is_fixed_transfer profile block_length count }
 {
-    block_length != 0 && u64::from(count) * u64::from(block_length) <= u64::from(MAX_BLOCK)
+    block_length != 0
+        && u64::from(count) * u64::from(block_length) <= u64::from(most_block(profile))
 }
 
 /// Reads so many blocks of the mode's length.
 pub(crate) fn read_blocks(
     alloc: Global,
+    profile: Profile,
     tape: &mut Tape,
     block_length: u32,
     count: u32,
 ) -> Result<Outcome, AllocError>
-    ensures ok { IfOk result (λ outcome. (if is_fixed_transfer block_length count
+    ensures ok { IfOk result (λ outcome. (if is_fixed_transfer profile block_length count
         then unless_nothing count tape.old (reads_fixed block_length count tape.old)
         else (tape.old, refused InvalidFieldInCdb)) ≡ (tape.new, outcome)) }
     ensures err { OnErr result (tape.new ≡ tape.old) }
 {
-    if !is_fixed_transfer(block_length, count) {
+    if !is_fixed_transfer(profile, block_length, count) {
         return Ok(Outcome::check(alloc, Condition::InvalidFieldInCdb));
     }
     if count == 0 {

@@ -1,6 +1,7 @@
 //! The sense data of a drive's own ends (SSC-4, "Sense data"). INFORMATION is what is left to do.
 
 ghost use Rattle.std.specs.Prelude.{◌≡◌};
+ghost use Rattle.device_server.specs.EarlyWarning.{early_warning};
 ghost use Rattle.device_server.specs.Senses.{informed, at_mark, at_end_of_data, at_beginning, past_the_end, of_other_length};
 
 use scsi_sense::{Condition, Sense};
@@ -54,5 +55,15 @@ pub(crate) fn of_other_length(left: u32) -> Sense
     Sense {
         ili: true,
         ..informed(Condition::NoAdditionalSenseInformation, left)
+    }
+}
+
+/// All was written, and the tape stands in its early-warning zone.
+pub(crate) fn early_warning() -> Sense
+    ensures { result ≡ early_warning }
+{
+    Sense {
+        eom: true,
+        ..informed(Condition::EarlyWarning, 0)
     }
 }

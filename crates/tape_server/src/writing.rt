@@ -11,6 +11,7 @@ ghost use Rattle.tape_server.specs.Steps.{not_written, IsWritten};
 use crate::reading::is_fixed_transfer;
 use crate::sense::past_the_end;
 use device_server::{Outcome, Payload};
+use scsi_cdb::Profile;
 use scsi_sense::Condition;
 use std::alloc::{AllocError, Global};
 use tape_medium::{Tape, TapeFault};
@@ -18,13 +19,14 @@ use tape_medium::{Tape, TapeFault};
 /// Writes the bytes as one block.
 pub(crate) fn write_block(
     alloc: Global,
+    profile: Profile,
     tape: &mut Tape,
     protected: bool,
     transfer_length: u32,
     bytes: &[u8],
 ) -> Result<Outcome, AllocError>
-    ensures ok { IfOk result (λ outcome. unless_nothing transfer_length tape.old (unless_protected protected tape.old (wrote tape.old transfer_length (writes_block tape.old bytes.now))) ≡ (tape.new, outcome)) }
-    ensures memory { OnErr result (IsWritten transfer_length protected (writes_block tape.old bytes.now)) }
+    ensures ok { IfOk result (λ outcome. unless_nothing transfer_length tape.old (unless_protected protected tape.old (wrote tape.old transfer_length (writes_block profile tape.old bytes.now))) ≡ (tape.new, outcome)) }
+    ensures memory { OnErr result (IsWritten transfer_length protected (writes_block profile tape.old bytes.now)) }
     ensures err { OnErr result (tape.new ≡ tape.old) }
 {
     if transfer_length == 0 {
@@ -33,7 +35,7 @@ pub(crate) fn write_block(
     if protected {
         return Ok(Outcome::check(alloc, Condition::WriteProtected));
     }
-    match tape.write_block(bytes) {
+    match tape.write_block(profile, bytes) {
         Ok(()) => Ok(Outcome::good(Payload::none(alloc))),
         Err(TapeFault::NoMemory) => Err(AllocError),
         Err(_) => Ok(not_written(alloc, transfer_length)),
@@ -43,19 +45,20 @@ pub(crate) fn write_block(
 /// Writes the bytes as so many blocks of the mode's length, all or none.
 pub(crate) fn write_blocks(
     alloc: Global,
+    profile: Profile,
     tape: &mut Tape,
     protected: bool,
     block_length: u32,
     count: u32,
     bytes: &[u8],
 ) -> Result<Outcome, AllocError>
-    ensures ok { IfOk result (λ outcome. (if is_fixed_transfer block_length count && length bytes.now == count * block_length
-        then unless_nothing count tape.old (unless_protected protected tape.old (wrote tape.old count (writes_blocks tape.old bytes.now block_length)))
+    ensures ok { IfOk result (λ outcome. (if is_fixed_transfer profile block_length count && length bytes.now == count * block_length
+        then unless_nothing count tape.old (unless_protected protected tape.old (wrote tape.old count (writes_blocks profile tape.old bytes.now block_length)))
         else (tape.old, refused InvalidFieldInCdb)) ≡ (tape.new, outcome)) }
-    ensures memory { OnErr result (IsWritten count protected (writes_blocks tape.old bytes.now block_length)) }
+    ensures memory { OnErr result (IsWritten count protected (writes_blocks profile tape.old bytes.now block_length)) }
     ensures err { OnErr result (tape.new ≡ tape.old) }
 {
-    if !is_fixed_transfer(block_length, count) {
+    if !is_fixed_transfer(profile, block_length, count) {
         return Ok(Outcome::check(alloc, Condition::InvalidFieldInCdb));
     }
     if bytes.len() as u64 != u64::from(count) * u64::from(block_length) {
@@ -67,7 +70,7 @@ pub(crate) fn write_blocks(
     if protected {
         return Ok(Outcome::check(alloc, Condition::WriteProtected));
     }
-    match tape.write_blocks(bytes, block_length) {
+    match tape.write_blocks(profile, bytes, block_length) {
         Ok(()) => Ok(Outcome::good(Payload::none(alloc))),
         Err(TapeFault::NoMemory) => Err(AllocError),
         Err(_) => Ok(not_written(alloc, count)),
@@ -77,12 +80,13 @@ pub(crate) fn write_blocks(
 /// Writes so many filemarks.
 pub(crate) fn write_filemarks(
     alloc: Global,
+    profile: Profile,
     tape: &mut Tape,
     protected: bool,
     filemark_count: u32,
 ) -> Result<Outcome, AllocError>
-    ensures ok { IfOk result (λ outcome. unless_nothing filemark_count tape.old (unless_protected protected tape.old (wrote tape.old filemark_count (writes_marks tape.old filemark_count))) ≡ (tape.new, outcome)) }
-    ensures memory { OnErr result (IsWritten filemark_count protected (writes_marks tape.old filemark_count)) }
+    ensures ok { IfOk result (λ outcome. unless_nothing filemark_count tape.old (unless_protected protected tape.old (wrote tape.old filemark_count (writes_marks profile tape.old filemark_count))) ≡ (tape.new, outcome)) }
+    ensures memory { OnErr result (IsWritten filemark_count protected (writes_marks profile tape.old filemark_count)) }
     ensures err { OnErr result (tape.new ≡ tape.old) }
 {
     if filemark_count == 0 {
@@ -91,7 +95,7 @@ pub(crate) fn write_filemarks(
     if protected {
         return Ok(Outcome::check(alloc, Condition::WriteProtected));
     }
-    match tape.write_marks(filemark_count) {
+    match tape.write_marks(profile, filemark_count) {
         Ok(()) => Ok(Outcome::good(Payload::none(alloc))),
         Err(TapeFault::NoMemory) => Err(AllocError),
         Err(_) => Ok(not_written(alloc, filemark_count)),

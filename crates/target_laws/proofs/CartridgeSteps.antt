@@ -6,6 +6,7 @@ use Rattle.scsi_cdb.specs.declared.kind.Kind.TheVariants as kind
 use Rattle.scsi_nexus.specs.declared.nexus.Nexus.{Nexus}
 use Rattle.scsi_sense.specs.declared.condition.Condition.{Condition}
 use Rattle.tape_medium.specs.declared.volume.Volume.{Volume}
+use Rattle.scsi_sense.specs.CarriedOut.{is_carried_out}
 use Rattle.device_server.specs.View.{DeviceView, Drive, Changer, kind_of, commands_of, journeyed, reset_of}
 use Rattle.device_server.specs.Volumes.{volume_at, volumes_of, SameCartridge, SameAt}
 use Rattle.device_server.proofs.TapeLemmas.{same_volume, resets_keep_volumes}
@@ -146,7 +147,7 @@ module _ (c : UnitView) (ds : List UnitView) (o : IsOrdered c ds) (n : Nexus) (c
       let drive = (drive_of c ds k d o there).kind in
       let same = drive_does d.device x.device s bytes r.status r.sense drive (executed d x n cdb bytes r step) in
       keeps (c ∷ ds) (suc k) d x there
-      (drive_same d.device x.device drive ((executes_stays d x n cdb bytes r step).device.kind ∙ drive) (weaker true (is_good r.status && writes s) (volume_at d.device 0) (volume_at x.device 0) same))
+      (drive_same d.device x.device drive ((executes_stays d x n cdb bytes r step).device.kind ∙ drive) (weaker true (is_carried_out r.status r.sense && writes s) (volume_at d.device 0) (volume_at x.device 0) same))
 
   move_stay : {A : Type 0} (v : UnitView) (drives after : A) (carried : Result (DeviceView × A) Condition) (set : A → List UnitView) → set drives ≡ ds
       → (carried ≡ Ok (v.device, after) → IsPermutation (cartridges (c ∷ ds)) (cartridges (v ∷ set after)))

@@ -11,6 +11,7 @@ use Rattle.scsi_cdb.specs.Kinds as cdb_kinds
 use Rattle.pr_core.specs.State.{keys_after}
 use Rattle.tape_medium.specs.declared.volume.Volume.{Volume}
 use Rattle.tape_medium.specs.declared.volume.VolumeTag.{VolumeTag}
+use Rattle.scsi_sense.specs.CarriedOut.{is_carried_out}
 use Rattle.device_server.specs.View.{commands_of, drives_of, profile_of}
 use Rattle.judgement.specs.declared.reply.Reply.{Reply}
 use Rattle.judgement.specs.Commands.{decoded_command}
@@ -71,9 +72,9 @@ way_sent (event.Command n (suc k) cdb bytes) s r h = ap (λ lun. carried_as lun 
 way_sent (event.Loss n lun) s r h = absurd h
 way_sent (event.Reset lun) s r h = absurd h
 
-writing_sent : (e : Event) (s : Sending) (r : Reply) → Sends e s → is_written Spec e r ≡ (is_good r.status && writes (decoded_command (cdb_kinds.commands Spec kind.Drive) s.1 s.2))
+writing_sent : (e : Event) (s : Sending) (r : Reply) → Sends e s → is_written Spec e r ≡ (is_carried_out r.status r.sense && writes (decoded_command (cdb_kinds.commands Spec kind.Drive) s.1 s.2))
 writing_sent (event.Command n lun cdb bytes) s r h =
-    ap (λ x. is_good r.status && writes (decoded_command (cdb_kinds.commands Spec kind.Drive) x bytes.items)) h.2 ∙ ap (λ x. is_good r.status && writes (decoded_command (cdb_kinds.commands Spec kind.Drive) s.1 x)) h.3
+    ap (λ x. is_carried_out r.status r.sense && writes (decoded_command (cdb_kinds.commands Spec kind.Drive) x bytes.items)) h.2 ∙ ap (λ x. is_carried_out r.status r.sense && writes (decoded_command (cdb_kinds.commands Spec kind.Drive) s.1 x)) h.3
 writing_sent (event.Loss n lun) s r h = absurd h
 writing_sent (event.Reset lun) s r h = absurd h
 
@@ -85,7 +86,7 @@ ways_of (s ∷ l) (r ∷ rs) = carried_as s.0 s.1 s.2 r ∷ ways_of l rs
 ways_of l rs = []
 
 abbrev writings_of : List Sending → List Reply → List Bool
-writings_of (s ∷ l) (r ∷ rs) = (is_good r.status && writes (decoded_command (cdb_kinds.commands Spec kind.Drive) s.1 s.2)) ∷ writings_of l rs
+writings_of (s ∷ l) (r ∷ rs) = (is_carried_out r.status r.sense && writes (decoded_command (cdb_kinds.commands Spec kind.Drive) s.1 s.2)) ∷ writings_of l rs
 writings_of l rs = []
 
 ways_sent : (es : List Event) (l : List Sending) (rs : List Reply) → AllSend es l → ways es rs ≡ ways_of l rs
@@ -98,7 +99,7 @@ ways_sent (e ∷ es) [] rs h = absurd h
 writings_sent : (es : List Event) (l : List Sending) (rs : List Reply) → AllSend es l → writings es rs ≡ writings_of l rs
 writings_sent [] [] rs h = refl
 writings_sent (e ∷ es) (s ∷ l) [] h = refl
-writings_sent (e ∷ es) (s ∷ l) (r ∷ rs) h = each (is_written Spec e r) (is_good r.status && writes (decoded_command (cdb_kinds.commands Spec kind.Drive) s.1 s.2)) (writings es rs) (writings_of l rs) (writing_sent e s r h.0) (writings_sent es l rs h.1)
+writings_sent (e ∷ es) (s ∷ l) (r ∷ rs) h = each (is_written Spec e r) (is_carried_out r.status r.sense && writes (decoded_command (cdb_kinds.commands Spec kind.Drive) s.1 s.2)) (writings es rs) (writings_of l rs) (writing_sent e s r h.0) (writings_sent es l rs h.1)
 writings_sent [] (s ∷ l) rs h = absurd h
 writings_sent (e ∷ es) [] rs h = absurd h
 

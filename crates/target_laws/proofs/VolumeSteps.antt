@@ -20,6 +20,7 @@ use Rattle.arrayvec.specs.ArrayVec.{ArrayVec}
 use Rattle.unit_attention.specs.Queues.{has_slot}
 use Rattle.tape_medium.specs.declared.volume.Volume.{Volume}
 use Rattle.device_server.specs.View.{DeviceView, Drive, Changer, kind_of, profile_of, commands_of, drives_of, performed, reset_of}
+use Rattle.scsi_sense.specs.CarriedOut.{is_carried_out}
 use Rattle.device_server.specs.Volumes.{volume_at, SameVolume, SameAt, Carries, Exchanges, is_write}
 use Rattle.device_server.proofs.MoveLemmas.{changers_stay, moves_carry_one, exchanges_carry_two}
 use Rattle.device_server.proofs.TapeLemmas.{drives_keep_their_volume, drives_keep_their_tape, resets_keep_volumes}
@@ -50,25 +51,28 @@ use Rattle.target_laws.proofs.StaysTarget.{run_order}
 use Rattle.target_laws.proofs.VolumeCarries.{way, one_carries, two_carry}
 use Rattle.target_laws.proofs.VolumePlaces.{by_element, at_own, own_place, stays, equal_stays, changer_same, drive_keeps}
 
--- A DRIVE'S OWN COMMAND leaves its volume, and what is on that unless it is a WRITE, WRITE FILEMARKS or ERASE that is GOOD
-step_keeps : (device : DeviceView) (q : Request) (bytes : List ℕ) (status : Status) (good write : Bool) → kind_of device ≡ kind.Drive → status ≡ (performed device q bytes).1.status → is_good status ≡ good → is_write q ≡ write
-    → SameAt (StaysSame true (good && write)) (volume_at device 0) (volume_at (performed device q bytes).0 0)
-step_keeps device q bytes status true true k is g w = drives_keep_their_volume device q bytes k 0
-step_keeps device q bytes status true false k is g w = drives_keep_their_tape device q bytes k (inl w) 0
-step_keeps device q bytes status false write k is g w =
-    drives_keep_their_tape device q bytes k (inr (λ e. let good : is_good status ≡ true = ap is_good (is ∙ e) in absurd cc)) 0
+-- A DRIVE'S OWN COMMAND leaves its volume, and what is on that unless it is a WRITE, WRITE FILEMARKS or ERASE that is carried out
+step_keeps : (device : DeviceView) (q : Request) (bytes : List ℕ) (status : Status) (sense : Option Sense) (done write : Bool) → kind_of device ≡ kind.Drive → status ≡ (performed device q bytes).1.status
+    → sense ≡ (performed device q bytes).1.sense → is_carried_out status sense ≡ done → is_write q ≡ write
+    → SameAt (StaysSame true (done && write)) (volume_at device 0) (volume_at (performed device q bytes).0 0)
+step_keeps device q bytes status sense true true k is so d w = drives_keep_their_volume device q bytes k 0
+step_keeps device q bytes status sense true false k is so d w = drives_keep_their_tape device q bytes k (inl w) 0
+step_keeps device q bytes status sense false write k is so d w =
+    let not_done : is_carried_out (performed device q bytes).1.status (performed device q bytes).1.sense ≡ false =
+    sym (ap (λ (s : Status). is_carried_out s sense) is ∙ ap (λ (o : Option Sense). is_carried_out (performed device q bytes).1.status o) so) ∙ d in
+    drives_keep_their_tape device q bytes k (inr not_done) 0
 
 pub drive_does : (before after : DeviceView) (c : Result Command Condition) (bytes : List ℕ) (status : Status) (sense : Option Sense) → kind_of before ≡ kind.Drive → Does before c bytes after status sense
-    → SameAt (StaysSame true (is_good status && writes c)) (volume_at before 0) (volume_at after 0)
+    → SameAt (StaysSame true (is_carried_out status sense && writes c)) (volume_at before 0) (volume_at after 0)
 drive_does before after (Ok (Device q)) bytes status sense k (inl unreached) =
-    equal_stays true (is_good status && is_write q) (volume_at before 0) (volume_at after 0) (ap (λ (x : DeviceView). volume_at x 0) unreached.device)
+    equal_stays true (is_carried_out status sense && is_write q) (volume_at before 0) (volume_at after 0) (ap (λ (x : DeviceView). volume_at x 0) unreached.device)
 drive_does before after (Ok (Device q)) bytes status sense k (inr step) =
-    subst (λ (x : DeviceView). SameAt (StaysSame true (is_good status && is_write q)) (volume_at before 0) (volume_at x 0)) (sym step.device)
-    (step_keeps before q bytes status (is_good status) (is_write q) k step.ends refl refl)
+    subst (λ (x : DeviceView). SameAt (StaysSame true (is_carried_out status sense && is_write q)) (volume_at before 0) (volume_at x 0)) (sym step.device)
+    (step_keeps before q bytes status sense (is_carried_out status sense) (is_write q) k step.ends step.reports refl refl)
 drive_does before after (Err condition) bytes status sense k does =
-    equal_stays true (is_good status && false) (volume_at before 0) (volume_at after 0) (ap (λ (x : DeviceView). volume_at x 0) does.device)
+    equal_stays true (is_carried_out status sense && false) (volume_at before 0) (volume_at after 0) (ap (λ (x : DeviceView). volume_at x 0) does.device)
 drive_does before after (Ok c) bytes status sense k does =
-    equal_stays true (is_good status && writes (Ok c)) (volume_at before 0) (volume_at after 0) (ap (λ (x : DeviceView). volume_at x 0) does.device)
+    equal_stays true (is_carried_out status sense && writes (Ok c)) (volume_at before 0) (volume_at after 0) (ap (λ (x : DeviceView). volume_at x 0) does.device)
 
 -- THE CHANGER'S OWN leaves it as it is, but a move that is GOOD
 abbrev pub CarriesBy : DeviceView → DeviceView → Option Way → Type 0
@@ -177,7 +181,7 @@ module _ (c : UnitView) (ds : List UnitView) (o : IsOrdered c ds) (n : Nexus) (c
       let own : commands_of d.device ≡ commands (profile_of c.device) kind.Drive =
       ap (λ (p : Profile). commands p (kind_of d.device)) at.profile ∙ ap (λ (y : Kind). commands (profile_of c.device) y) drive in
       drive_keeps c ds k d x (asked (suc k)) r there refl
-      (subst (λ (y : CommandSet). SameAt (StaysSame true (is_good r.status && writes (decoded_command y cdb.items bytes.items))) (volume_at d.device 0) (volume_at x.device 0)) own
+      (subst (λ (y : CommandSet). SameAt (StaysSame true (is_carried_out r.status r.sense && writes (decoded_command y cdb.items bytes.items))) (volume_at d.device 0) (volume_at x.device 0)) own
       (drive_does d.device x.device (decoded_command (commands_of d.device) cdb.items bytes.items) bytes.items r.status r.sense drive (executed d x n cdb.items bytes.items r step)))
 
   -- at the changer with drives: alone, with nothing carried, or with a volume carried

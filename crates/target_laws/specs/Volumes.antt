@@ -8,6 +8,7 @@ use Rattle.scsi_cdb.specs.declared.request.Request.TheVariants.{MoveMedium, Host
 use Rattle.scsi_cdb.specs.Kinds.{commands}
 use Rattle.scsi_sense.specs.declared.condition.Condition.{Condition}
 use Rattle.tape_medium.specs.declared.volume.Volume.{Volume}
+use Rattle.scsi_sense.specs.CarriedOut.{is_carried_out}
 use Rattle.device_server.specs.Volumes.{volume_at, SameCartridge, SameVolume, SameAt, is_write}
 use Rattle.judgement.specs.declared.reply.Reply.{Reply}
 use Rattle.judgement.specs.Commands.{decoded_command}
@@ -64,9 +65,10 @@ abbrev pub writes : Result Command Condition → Bool
 writes (Ok (Device request)) = is_write request
 writes command = false
 
--- whether an event writes on the tape of its drive in a target of a profile: a WRITE, WRITE FILEMARKS or ERASE that ended GOOD
+-- whether an event writes on the tape of its drive in a target of a profile: a WRITE, WRITE FILEMARKS or ERASE that was carried out, and so ended
+-- GOOD or at early warning
 abbrev pub is_written : Profile → Event → Reply → Bool
-is_written profile (event.Command n lun cdb bytes) r = is_good r.status && writes (decoded_command (commands profile kind.Drive) cdb.items bytes.items)
+is_written profile (event.Command n lun cdb bytes) r = is_carried_out r.status r.sense && writes (decoded_command (commands profile kind.Drive) cdb.items bytes.items)
 is_written profile e r = false
 
 -- what stays the same of a volume: all of it, unless the event is to its drive; then all but where its tape stands, and but what is on it

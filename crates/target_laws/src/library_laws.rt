@@ -11,7 +11,7 @@ ghost use Rattle.target_laws.specs.Volumes.{VolumesStay};
 /// In every run of a target each event leaves every volume where it stands, the same volume, but
 /// where a MOVE MEDIUM that is GOOD carried one: that has left its source and stands at its
 /// destination, and no other has moved; or an EXCHANGE MEDIUM two. Where a tape stands is changed by its drive alone, and what is
-/// on it by a WRITE, WRITE FILEMARKS or ERASE of its drive that is GOOD.
+/// on it by a WRITE, WRITE FILEMARKS or ERASE of its drive that is carried out.
 pub fn volumes_stay()
     ensures { VolumesStay }
 {}

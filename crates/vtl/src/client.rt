@@ -20,7 +20,11 @@ pub fn client<R: AllocGlobal + Input + Net + Print>(
 ) -> Result<(), ClientFault>
     requires { IsClientOptions host }
 {
-    let ClientOptions { socket, nexus } = host;
+    let ClientOptions {
+        socket,
+        nexus,
+        profile,
+    } = host;
     let script = read_all(rt.alloc(), &mut rt.reader(), MAX_READS)?;
     let stream = match UnixStream::connect(rt, socket.as_str()) {
         Ok(stream) => stream,
@@ -31,6 +35,7 @@ pub fn client<R: AllocGlobal + Input + Net + Print>(
     let mut out = io::writer(rt);
     let settings = HostSettings {
         nexus,
+        profile,
         explanations,
         turns: MAX_READS,
     };

@@ -6,6 +6,7 @@ use iscsi_pdu::{LoginStatus, SerialNumber};
 use iscsi_session::{
     Arrival, Entrant, Joined, NexusEnd, Portal, SessionIdentity, SessionRegister, serve,
 };
+use scsi_cdb::Profile;
 use scsi_nexus::Nexus;
 use std::alloc::Global;
 use std::process::Abort;
@@ -135,6 +136,7 @@ pub(super) fn target(rt: &impl Abort, alloc: Global) -> LoginTarget {
             any_host: true,
         },
         authentication: Authentication::None,
+        profile: Profile::Spec,
     }
 }
 

@@ -1,6 +1,7 @@
 use crate::comparing::assert_same;
 use crate::trickle::Trickle;
 use tape_image::{IndexFault, index_image, write_block, write_mark};
+use tape_medium::MAX_BLOCK;
 
 /// "hi", a filemark and "odd", as SIMH keeps them.
 const IMAGE: &[u8] = &[
@@ -16,7 +17,7 @@ fn an_image_whose_read_fails_has_no_index(rt: HostRuntime) {
         fails_at: 0,
         is_interrupted: true,
     };
-    let index = index_image(rt.alloc(), &mut reader);
+    let index = index_image(rt.alloc(), MAX_BLOCK, &mut reader);
     let is_of_a_read = matches!(index.err(), Some(IndexFault::Read));
     assert_same(&rt, is_of_a_read, true, "no index");
 }

@@ -1,10 +1,11 @@
 use crate::comparing::{assert_list, assert_same};
 use crate::media::failing_store::FailingStore;
+use scsi_cdb::Profile;
 use std::alloc::Global;
 use std::process::Abort;
 use tape_flush::{ImageStore, SavedImage, TapePart, image_ends, open_image};
 use tape_image::index_image;
-use tape_medium::Tape;
+use tape_medium::{MAX_BLOCK, Tape};
 
 /// "hi" and a filemark, as SIMH keeps them.
 const IMAGE: &[u8] = &[2, 0, 0, 0, b'h', b'i', 2, 0, 0, 0, 0, 0, 0, 0];
@@ -21,7 +22,7 @@ fn image_of(rt: &impl Abort, alloc: Global, bytes: &[u8]) -> SavedImage<FailingS
         fails: true,
     };
     let mut reader = bytes;
-    let index = index_image(alloc, &mut reader).expect(rt, "an index");
+    let index = index_image(alloc, MAX_BLOCK, &mut reader).expect(rt, "an index");
     let ends = image_ends(alloc, &index).expect(rt, "ends");
     open_image(store, ends, bytes.len() as u64)
 }
@@ -42,10 +43,10 @@ fn is_copied<S: ImageStore>(alloc: Global, image: &mut SavedImage<S>, tape: &mut
 fn what_a_sync_that_fails_forgets_is_written_again(rt: HostRuntime) {
     let alloc = rt.alloc();
     let mut tape = Tape::new(alloc, 1_000);
-    let is_written = tape.write_block(b"hi").is_ok();
+    let is_written = tape.write_block(Profile::Spec, b"hi").is_ok();
     let count = tape.object_count();
     tape.settle(count);
-    let is_marked = tape.write_marks(1).is_ok();
+    let is_marked = tape.write_marks(Profile::Spec, 1).is_ok();
     assert_same(&rt, (is_written, is_marked), (true, true), "a tape");
     let mut image = image_of(&rt, alloc, FIRST);
     let is_there = is_copied(alloc, &mut image, &mut tape);

@@ -12,7 +12,7 @@ use std::process::Abort;
 use std::sync::{Mutex, Wait};
 use std::time::Clock;
 use tape_flush::{ImageStore, StoreFault};
-use tape_keeper::{GoodCommand, KeepEvent, KeepListener, KeepPlace};
+use tape_keeper::{CarriedOutCommand, KeepEvent, KeepListener, KeepPlace};
 use tape_medium::VolumeTag;
 
 const TAG: VolumeTag = VolumeTag([b'A'; 32]);
@@ -28,7 +28,7 @@ const SIZE: LibrarySize = LibrarySize {
 };
 
 /// A WRITE of "hi" that was GOOD.
-const WRITE: GoodCommand = GoodCommand {
+const WRITE: CarriedOutCommand = CarriedOutCommand {
     lun: 1,
     class: Class::Write,
     is_immediate: false,

@@ -11,7 +11,7 @@ use std::process::Abort;
 use std::sync::atomic::{AtomicU32, Ordering};
 use std::sync::{Mutex, Wait};
 use std::time::Clock;
-use tape_keeper::{GoodCommand, KeepChange, KeepEvent, KeepListener, KeepPlace};
+use tape_keeper::{CarriedOutCommand, KeepChange, KeepEvent, KeepListener, KeepPlace};
 use tape_medium::VolumeTag;
 use tickets::Ticket;
 
@@ -99,7 +99,7 @@ impl<'a, R: Abort + Clock + Wait> Library<'a, R> {
     }
 
     /// Asks that what a command left be kept.
-    pub(super) fn begin(&self, command: GoodCommand) -> Option<Ticket> {
+    pub(super) fn begin(&self, command: CarriedOutCommand) -> Option<Ticket> {
         self.keeper.begin(self.rt, &self.told, command)
     }
 
@@ -118,7 +118,7 @@ impl<'a, R: Abort + Clock + Wait> Library<'a, R> {
     }
 
     /// Asks that what a command left be kept, and does so at a place. How that ended.
-    pub(super) fn keep(&self, command: GoodCommand, place: KeepPlace) -> Ended {
+    pub(super) fn keep(&self, command: CarriedOutCommand, place: KeepPlace) -> Ended {
         let ticket = self.begin(command);
         self.work(place);
         self.ended(ticket)

@@ -1,4 +1,5 @@
 use crate::comparing::assert_same;
+use scsi_cdb::Profile;
 use tape_medium::{MemoryLimit, Tape, TapeFault};
 
 /// What a tape of the smallest capacity takes for its blocks, at its first.
@@ -8,7 +9,7 @@ const ROOM: u64 = 1_048_576;
 const LISTS: u64 = 1_024;
 
 fn written(tape: &mut Tape) -> Result<(), TapeFault> {
-    tape.write_block(b"1")
+    tape.write_block(Profile::Spec, b"1")
 }
 
 #[test]

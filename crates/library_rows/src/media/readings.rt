@@ -1,5 +1,6 @@
 use crate::comparing::assert_same;
 use crate::trickle::Trickle;
+use scsi_cdb::Profile;
 use std::alloc::Global;
 use tape_flush::{ReadTapeFault, read_tape};
 use tape_medium::MemoryLimit;
@@ -19,6 +20,7 @@ fn read_until(alloc: Global, left: u64, capacity: u64) -> Result<u32, ReadTapeFa
     };
     match read_tape(
         alloc,
+        Profile::Spec,
         &mut reader,
         capacity.clamp(1, 1_000),
         MemoryLimit::none(),
@@ -54,4 +56,29 @@ fn images_are_read_as_tapes(rt: HostRuntime) {
         let shows = "a read that fails is told";
         assert_same(&rt, found, Err(ReadTapeFault::Read), shows);
     }
+}
+
+/// The beginning of a block of 65,537 bytes, behind a filemark: its length, and one of its bytes.
+const LONG: &[u8] = &[0, 0, 0, 0, 1, 0, 1, 0, b'x'];
+
+/// How many objects are read in a library of a profile.
+fn read_in(alloc: Global, profile: Profile) -> Result<u32, ReadTapeFault> {
+    let mut reader: &[u8] = LONG;
+    match read_tape(alloc, profile, &mut reader, 200_000, MemoryLimit::none()) {
+        Ok(read) => Ok(read.tape.object_count()),
+        Err(fault) => Err(fault),
+    }
+}
+
+/// A block that is too long is told by its first bytes, also where its rest isn't there.
+#[test]
+fn longer_blocks_are_read_for_hosts_alone(rt: HostRuntime) {
+    let too_long = ReadTapeFault::TooLong {
+        objects: 1,
+        whole: 4,
+    };
+    let in_spec = read_in(rt.alloc(), Profile::Spec);
+    assert_same(&rt, in_spec, Err(too_long), "no longer block");
+    let for_hosts = read_in(rt.alloc(), Profile::Hosts);
+    assert_same(&rt, for_hosts, Ok(1), "a cut tail");
 }

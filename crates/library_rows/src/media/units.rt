@@ -14,7 +14,7 @@ use std::sync::{Mutex, Wait};
 use tape_flush::{ImageStore, StoreFault, image_ends, open_image};
 use tape_image::index_image;
 use tape_keeper::TapeSource;
-use tape_medium::{Tape, Volume, VolumeTag};
+use tape_medium::{MAX_BLOCK, Tape, Volume, VolumeTag};
 use tape_server::TapeDrive;
 
 /// A WRITE of "hi" as it comes to a drive, and a WRITE FILEMARKS of one.
@@ -129,7 +129,7 @@ pub(super) fn image_in<S: ImageStore + Drop>(
     store: S,
 ) -> VolumeImage<S> {
     let mut nothing: &[u8] = &[];
-    let index = index_image(alloc, &mut nothing).expect(rt, "an index");
+    let index = index_image(alloc, MAX_BLOCK, &mut nothing).expect(rt, "an index");
     let ends = image_ends(alloc, &index).expect(rt, "ends");
     VolumeImage::new(&volume_of(alloc, tag), open_image(store, ends, 0))
 }

@@ -8,7 +8,7 @@ use std::process::Abort;
 use std::sync::Wait;
 use std::thread::{self, Threads};
 use std::time::{Clock, Duration};
-use tape_keeper::{GoodCommand, KeepPlace};
+use tape_keeper::{CarriedOutCommand, KeepPlace};
 
 const DRIVE: KeepPlace = KeepPlace::Drive(1);
 
@@ -20,7 +20,7 @@ fn pause(clock: &impl Clock) {
 /// What a command left is to be kept while the thread at its place waits: whether that goes on.
 fn goes_on_after<R: Abort + AllocGlobal + Clock + Threads + Wait + Sync>(
     rt: &R,
-    command: GoodCommand,
+    command: CarriedOutCommand,
 ) -> bool {
     let alloc = rt.alloc();
     let disk = MemoryDisk::new(alloc);

@@ -5,6 +5,7 @@ use super::streams::Sink;
 use crate::trickle::Trickle;
 use client_session::{ClientSessionFault, HostSettings, run_session};
 use output_lines::Explanations;
+use scsi_cdb::Profile;
 use scsi_nexus::Nexus;
 use std::alloc::Global;
 
@@ -41,6 +42,7 @@ fn sent_script(
     let mut writer = Sink { fails };
     let settings = HostSettings {
         nexus: A,
+        profile: Profile::Spec,
         explanations: Explanations::Off,
         turns,
     };

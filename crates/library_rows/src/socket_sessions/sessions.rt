@@ -100,7 +100,14 @@ fn serve_ends_by_one_read_too_few(rt: HostRuntime) {
     let mut service = Empty::new();
     let mut reader = LOGIN;
     let mut output = Vec::new(rt.alloc());
-    let ended = serve(rt.alloc(), &mut service, &mut reader, &mut output, 1);
+    let ended = serve(
+        rt.alloc(),
+        Profile::Spec,
+        &mut service,
+        &mut reader,
+        &mut output,
+        1,
+    );
     let found = (ended, output.as_slice(), service.losses);
     let expected = (Err(SessionFault::Read), ACCEPTED, 2);
     assert_same(&rt, found, expected, "one read too few");

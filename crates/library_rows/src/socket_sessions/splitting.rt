@@ -1,6 +1,7 @@
 //! A stream that is cut into frames by itself, which no session here does.
 
 use super::assert_same;
+use scsi_cdb::Profile;
 use session::{Frame, Splitter};
 use std::alloc::Global;
 
@@ -13,8 +14,8 @@ const ONE_SESSION: &[u8] = b"\0\0\0\x0b\x01\x50\0\0\0\0\0\0\x0a\0\x01\
 fn split(alloc: Global, frames: &mut Vec<Frame>) -> (bool, bool, usize) {
     let mut splitter = Splitter::new(alloc);
     let (first, second) = ONE_SESSION.split_at(22);
-    let begun = splitter.feed(first, frames).is_ok();
-    let ended = splitter.feed(second, frames).is_ok();
+    let begun = splitter.feed(Profile::Spec, first, frames).is_ok();
+    let ended = splitter.feed(Profile::Spec, second, frames).is_ok();
     (begun, ended, frames.len())
 }
 

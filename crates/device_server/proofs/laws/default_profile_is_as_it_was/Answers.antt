@@ -1,4 +1,5 @@
 use Rattle.device_server.proofs.ByProfile.{fields_of_spec, drives_of_spec, changers_of_spec, identities_are_of_hosts}
+use Rattle.device_server.proofs.WarningLemmas.{drives_of_spec_never_warn}
 use Rattle.device_server.proofs.laws.default_profile_is_as_it_was.Goals as goal
 
 pub returns-clause-fields : goal.returns-clause-fields
@@ -12,3 +13,6 @@ returns-clause-changers c = changers_of_spec
 
 pub returns-clause-identities : goal.returns-clause-identities
 returns-clause-identities c = identities_are_of_hosts
+
+pub returns-clause-warnings : goal.returns-clause-warnings
+returns-clause-warnings c = drives_of_spec_never_warn

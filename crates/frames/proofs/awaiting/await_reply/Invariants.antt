@@ -8,7 +8,7 @@ use Rattle.frames.proofs.awaiting.await_reply.Given as goal
 abbrev pub invariant-reads : goal.invariant-reads
 invariant-reads g l = record {
   read : Added l.fn.read_buffer l.read_buffer (g.R.Read.remaining l.fn.reader) (g.R.Read.remaining l.reader);
-  ready : (parsed_reply l.fn.read_buffer ≡ Partial → ⊥) → (l.read_buffer ≡ l.fn.read_buffer) × Keeps (g.R.Read.remaining l.fn.reader) (g.R.Read.remaining l.reader);
+  ready : (parsed_reply l.fn.profile l.fn.read_buffer ≡ Partial → ⊥) → (l.read_buffer ≡ l.fn.read_buffer) × Keeps (g.R.Read.remaining l.fn.reader) (g.R.Read.remaining l.reader);
 }
 
 abbrev pub decreases-reads : goal.decreases-reads

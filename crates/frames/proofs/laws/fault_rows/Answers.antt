@@ -10,6 +10,10 @@ pub returns-clause-too_long : goal.returns-clause-too_long
 unfolding parsed_body parsed_frame
 returns-clause-too_long c = refl
 
+pub returns-clause-too_long_for_hosts : goal.returns-clause-too_long_for_hosts
+unfolding parsed_body parsed_frame
+returns-clause-too_long_for_hosts c = refl
+
 pub returns-clause-unknown_kind : goal.returns-clause-unknown_kind
 unfolding parsed_body parsed_frame
 returns-clause-unknown_kind c = refl

@@ -14,6 +14,10 @@ pub returns-clause-longest : goal.returns-clause-longest
 unfolding parsed_body parsed_frame
 returns-clause-longest c = refl
 
+pub returns-clause-longest_for_hosts : goal.returns-clause-longest_for_hosts
+unfolding parsed_body parsed_frame
+returns-clause-longest_for_hosts c = refl
+
 pub returns-clause-in_a_login : goal.returns-clause-in_a_login
 unfolding parsed_body parsed_frame
 returns-clause-in_a_login c = refl

@@ -3,4 +3,4 @@ use Rattle.frames.proofs.Taking.{taken_is_read}
 use Rattle.frames.proofs.laws.taken_is_read.Goals as goal
 
 pub returns : goal.returns
-returns c pending rest fs gs stop took more = taken_is_read true pending fs rest gs stop refl took more
+returns c p pending rest fs gs stop took more = taken_is_read p true pending fs rest gs stop refl took more

@@ -10,6 +10,10 @@ pub returns-clause-too_long : goal.returns-clause-too_long
 unfolding parsed_reply_body parsed_reply
 returns-clause-too_long c = refl
 
+pub returns-clause-too_long_for_hosts : goal.returns-clause-too_long_for_hosts
+unfolding parsed_reply_body parsed_reply
+returns-clause-too_long_for_hosts c = refl
+
 pub returns-clause-kind_of_a_frame : goal.returns-clause-kind_of_a_frame
 unfolding parsed_reply_body parsed_reply
 returns-clause-kind_of_a_frame c = refl

@@ -14,6 +14,10 @@ pub returns-clause-longest : goal.returns-clause-longest
 unfolding parsed_reply_body parsed_reply
 returns-clause-longest c = refl
 
+pub returns-clause-longest_for_hosts : goal.returns-clause-longest_for_hosts
+unfolding parsed_reply_body parsed_reply
+returns-clause-longest_for_hosts c = refl
+
 pub returns-clause-before_the_answer : goal.returns-clause-before_the_answer
 unfolding parsed_reply_body parsed_reply
 returns-clause-before_the_answer c = refl

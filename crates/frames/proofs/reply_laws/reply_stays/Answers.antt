@@ -2,4 +2,4 @@ use Rattle.frames.proofs.ReplyPieces.{reply_stays}
 use Rattle.frames.proofs.reply_laws.reply_stays.Goals as goal
 
 pub returns : goal.returns
-returns c bytes more known = reply_stays bytes more known
+returns c p bytes more known = reply_stays p bytes more known

@@ -10,4 +10,4 @@ pub returns-clause-rest : goal.returns-clause-rest
 returns-clause-rest c f rest = drop-append_seam (frame_bytes f) rest
 
 pub returns-clause-stream : goal.returns-clause-stream
-returns-clause-stream c f rest others stop can wide more = sent_in_stream f rest others stop can wide more
+returns-clause-stream c p f rest others stop can wide more = sent_in_stream p f rest others stop can wide more

@@ -8,7 +8,7 @@ use Rattle.script_lines.proofs.host_script.requests_of.Given as goal
 
 abbrev pub invariant-lines : goal.invariant-lines
 invariant-lines l = record {
-  known : with_front (request_values l.requests.items) (lines_in request_line_in (l.number + 1) (pieces_after 10 l.rest)) ≡ requests_in l.text;
+  known : with_front (request_values l.requests.items) (lines_in (request_line_in l.profile) (l.number + 1) (pieces_after 10 l.rest)) ≡ requests_in l.profile l.text;
   counted : MatchOption l.rest (Unit {0}) (λ rest. l.number + length rest.now ≤ length l.text);
 }
 

@@ -9,6 +9,6 @@ use Rattle.session.proofs.login.await_login.Given as goal
 abbrev pub invariant-reads : goal.invariant-reads
 invariant-reads g l =
     Consumes (g.R.Read.remaining l.fn.reader) (g.R.Read.remaining l.reader) l.read_buffer
-    × (parsed_frame false l.read_buffer ≡ Partial)
-    × (length l.read_buffer < frame_size_limit)
-    × ReadsAtMost (l.turn * frame_buffer_size) (g.R.Read.remaining l.fn.reader) (g.R.Read.remaining l.reader)
+    × (parsed_frame l.profile false l.read_buffer ≡ Partial)
+    × (length l.read_buffer < frame_size_limit l.profile)
+    × ReadsAtMost (l.turn * frame_buffer_size l.profile) (g.R.Read.remaining l.fn.reader) (g.R.Read.remaining l.reader)

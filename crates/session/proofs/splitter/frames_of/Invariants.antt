@@ -7,7 +7,7 @@ use Rattle.session.proofs.splitter.frames_of.Given as goal
 abbrev pub invariant-frames : goal.invariant-frames
 invariant-frames l =
     record {
-      read : (others : List FrameValue) (stop : Stop) → Reads l.logged l.rest others stop → Reads l.logged_in l.bytes (values_of_frames l.frames.items ++ others) stop;
+      read : (others : List FrameValue) (stop : Stop) → Reads l.profile l.logged l.rest others stop → Reads l.profile l.logged_in l.bytes (values_of_frames l.frames.items ++ others) stop;
       within : length l.rest ≤ length l.bytes;
       rest : l.rest ≡ drop (length l.bytes - length l.rest) l.bytes;
     }

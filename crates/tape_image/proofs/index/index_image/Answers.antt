@@ -31,6 +31,6 @@ pub parts-preserved : goal.parts-preserved
 parts-preserved g c =
     let r = c.await_part.new.self in
     let grown = c.in_ok-add_part.ensures
-    ∙ ap (λ (o : ℕ). c.parts.objects.items ++ map indexed (part_objects o (part_value c.part.result))) c.offset-offset.ensures
-    ∙ ap (λ (p : PartValue). c.parts.objects.items ++ map indexed (part_objects r.offset p)) c.part.ensures in
+    ∙ ap (λ (o : ℕ). c.parts.objects.items ++ map indexed (part_objects o (part_value c.part-in-parts.result))) c.offset-offset.ensures
+    ∙ ap (λ (p : PartValue). c.parts.objects.items ++ map indexed (part_objects r.offset p)) c.part-in-parts.ensures in
     stepped _ c.parts.image r c.pass.new.self _ _ _ _ c.parts.invariant c.await_part.ensures.read c.in_ok-pass.ensures.ok grown

@@ -20,9 +20,9 @@ returns-in-Ok-clause-ok g c =
     let cleared = c.clear.new.self.items in
     let line = c.take_reply.new.line.items in
     let count = c.in_ok-count.count in
-    exchanged explanations frame c.args.self.now.read_buffer came.0 c.expect_reply.new.read_buffer c.consume.new.self cleared line count _ _
+    exchanged c.args.self.now.profile explanations frame c.args.self.now.read_buffer came.0 c.expect_reply.new.read_buffer c.consume.new.self cleared line count _ _
     came.1 came.2
-    (subst (λ (l : List ℕ). Answers explanations frame (parsed_reply l) count cleared line) c.pending-pending.ensures c.in_ok-count.ensures.ok)
+    (subst (λ (l : List ℕ). Answers c.args.self.now.profile explanations frame (parsed_reply c.args.self.now.profile l) count cleared line) c.pending-pending.ensures c.in_ok-count.ensures.ok)
     (subst (λ (l : List ℕ). count ≤ length l) c.pending-pending.ensures c.in_ok-count.ensures.within) c.consume.ensures c.clear.ensures.items
     c.in_ok-send.ensures.ok
     (subst (λ (l : List ℕ). Appends (g.O.Write.contents c.args.out.now) (g.O.Write.contents c.write_out.new.writer) l) c.as_slice.ensures.value

@@ -13,7 +13,7 @@ returns-in-NeedsInput-clause-goes_on g c _ =
       gone = so.gone;
       appended = so.appended;
       answered =
-          batch g.S.Service.notes c.args.service.now c.batches.service c.answer_some.new.service (state_of c.args.self.now)
+          batch c.args.profile g.S.Service.notes c.args.service.now c.batches.service c.answer_some.new.service (state_of c.args.self.now)
           (state_of c.batches.self) (state_of c.answer_some.new.self) so.gone so.answered here;
     }
 
@@ -25,7 +25,7 @@ returns-in-LoggedOut-clause-leaves g c _ =
       gone = so.gone;
       appended = so.appended;
       answered =
-          last_batch g.S.Service.notes c.args.service.now c.batches.service c.answer_some.new.service (state_of c.args.self.now)
+          last_batch c.args.profile g.S.Service.notes c.args.service.now c.batches.service c.answer_some.new.service (state_of c.args.self.now)
           (state_of c.batches.self) (state_of c.answer_some.new.self) so.gone so.answered here;
     }
 
@@ -37,7 +37,7 @@ batches-preserved g c =
     let empty = c.flush.ensures.empty in
     let after = state_of c.answer_some.new.self in
     let all =
-    batch g.S.Service.notes c.args.service.now c.batches.service c.answer_some.new.service (state_of c.args.self.now) (state_of c.batches.self)
+    batch c.args.profile g.S.Service.notes c.args.service.now c.batches.service c.answer_some.new.service (state_of c.args.self.now) (state_of c.batches.self)
     after so.gone so.answered here in
     let gone = so.gone ++ after.out in
     let none : gone ++ c.flush.new.out.items ≡ gone = ap (λ (x : List ℕ). gone ++ x) empty.0 ∙ append-nil gone in (
@@ -45,7 +45,7 @@ batches-preserved g c =
         gone = gone;
         appended = appends_more _ (g.W.Write.contents c.batches.writer) _ so.gone after.out so.appended wrote;
         answered =
-            subst (λ (x : List ℕ). Answers g.S.Service.notes c.args.service.now (state_of c.args.self.now) (record after { out = x })
+            subst (λ (x : List ℕ). Answers c.args.profile g.S.Service.notes c.args.service.now (state_of c.args.self.now) (record after { out = x })
             c.answer_some.new.service) (sym none) all;
       },
       (omega arith, omega arith),

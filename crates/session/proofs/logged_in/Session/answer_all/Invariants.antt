@@ -5,9 +5,9 @@ use Rattle.session.proofs.logged_in.Session.answer_all.Given as goal
 
 abbrev pub invariant-batches : goal.invariant-batches
 invariant-batches g l =
-    AnswersOut g.S.Service.notes l.fn.service (state_of l.fn.self) (g.W.Write.contents l.fn.writer) (g.W.Write.contents l.writer)
+    AnswersOut l.profile g.S.Service.notes l.fn.service (state_of l.fn.self) (g.W.Write.contents l.fn.writer) (g.W.Write.contents l.writer)
     (state_of l.self) l.service
-    × HasRoom (vec_len l.self.out) (vec_capacity l.self.out)
+    × HasRoom l.profile (vec_len l.self.out) (vec_capacity l.self.out)
     × (vec_capacity l.fn.self.out ≤ vec_capacity l.self.out)
     × ComesByCalls g.S.Service.notes l.fn.self.nexus l.fn.service l.service
 

@@ -12,10 +12,10 @@ use Rattle.session.proofs.logged_in.Session.answer_some.Goals as goal
 pub frames-preserved : goal.frames-preserved
 frames-preserved g c =
     let so = c.frames.invariant.0 in
-    let whole : parsed_frame true c.frames.self.read_buffer ≡ Complete (frame_value c.in-Complete.frame) c.in-Complete.count =
-    sym (ap (parsed_frame true) c.pending.ensures) ∙ sym c.in-Complete.ensures.parsed in
+    let whole : parsed_frame c.args.profile true c.frames.self.read_buffer ≡ Complete (frame_value c.in-Complete.frame) c.in-Complete.count =
+    sym (ap (parsed_frame c.args.profile true) c.pending.ensures) ∙ sym c.in-Complete.ensures.parsed in
     let said = c.in_ok-next-in-Complete.ensures.goes_on (ap Ok c.in-Frames.is) in (
-      one_more g.S.Service.notes c.args.service.now c.frames.service c.answer_frame.new.service (state_of c.args.self.now)
+      one_more c.args.profile g.S.Service.notes c.args.service.now c.frames.service c.answer_frame.new.service (state_of c.args.self.now)
           (state_of c.frames.self) _ (frame_value c.in-Complete.frame) c.in-Complete.count so whole c.consume.ensures refl said,
       omega (arith, c.frames.invariant.1, ap length c.consume.ensures, length-drop c.in-Complete.count c.frames.self.read_buffer),
       (omega arith, omega arith),
@@ -24,20 +24,20 @@ frames-preserved g c =
           so.nexus c.frames.invariant.4 c.answer_frame.ensures.calls,
     )
 
-pub returns-then-len-ge-BATCH-clause-goes_on : goal.returns-then-len-ge-BATCH-clause-goes_on
-returns-then-len-ge-BATCH-clause-goes_on g c _ =
-    let whole : parsed_frame true c.frames.self.read_buffer ≡ Complete (frame_value c.in-Complete.frame) c.in-Complete.count =
-    sym (ap (parsed_frame true) c.pending.ensures) ∙ sym c.in-Complete.ensures.parsed in
+pub returns-then-len-batch-clause-goes_on : goal.returns-then-len-batch-clause-goes_on
+returns-then-len-batch-clause-goes_on g c _ =
+    let whole : parsed_frame c.args.profile true c.frames.self.read_buffer ≡ Complete (frame_value c.in-Complete.frame) c.in-Complete.count =
+    sym (ap (parsed_frame c.args.profile true) c.pending.ensures) ∙ sym c.in-Complete.ensures.parsed in
     let said = c.in_ok-next-in-Complete.ensures.goes_on (ap Ok c.in-Frames.is) in
-    one_more g.S.Service.notes c.args.service.now c.frames.service c.answer_frame.new.service (state_of c.args.self.now)
+    one_more c.args.profile g.S.Service.notes c.args.service.now c.frames.service c.answer_frame.new.service (state_of c.args.self.now)
     (state_of c.frames.self) _ (frame_value c.in-Complete.frame) c.in-Complete.count c.frames.invariant.0 whole c.consume.ensures refl said
 
 pub returns-in-Nothing-clause-leaves : goal.returns-in-Nothing-clause-leaves
 returns-in-Nothing-clause-leaves g c _ =
-    let whole : parsed_frame true c.frames.self.read_buffer ≡ Complete (frame_value c.in-Complete.frame) c.in-Complete.count =
-    sym (ap (parsed_frame true) c.pending.ensures) ∙ sym c.in-Complete.ensures.parsed in
+    let whole : parsed_frame c.args.profile true c.frames.self.read_buffer ≡ Complete (frame_value c.in-Complete.frame) c.in-Complete.count =
+    sym (ap (parsed_frame c.args.profile true) c.pending.ensures) ∙ sym c.in-Complete.ensures.parsed in
     let said = c.in_ok-next-in-Complete.ensures.logout (ap Ok c.in-Nothing.is) in
-    then_logout g.S.Service.notes c.args.service.now c.frames.service c.answer_frame.new.service (state_of c.args.self.now)
+    then_logout c.args.profile g.S.Service.notes c.args.service.now c.frames.service c.answer_frame.new.service (state_of c.args.self.now)
     (state_of c.frames.self) _ (frame_value c.in-Complete.frame) c.in-Complete.count c.frames.invariant.0 whole c.consume.ensures said
 
 pub returns-in-Partial-clause-calls : goal.returns-in-Partial-clause-calls
@@ -61,13 +61,13 @@ returns-in-Again-clause-calls g c =
     called_on g.S.Service.notes c.args.self.now.nexus c.frames.self.nexus c.args.service.now c.frames.service c.answer_frame.new.service
     c.frames.invariant.0.nexus c.frames.invariant.4 c.answer_frame.ensures.calls
 
-pub returns-then-len-ge-BATCH-clause-calls : goal.returns-then-len-ge-BATCH-clause-calls
-returns-then-len-ge-BATCH-clause-calls g c =
+pub returns-then-len-batch-clause-calls : goal.returns-then-len-batch-clause-calls
+returns-then-len-batch-clause-calls g c =
     called_on g.S.Service.notes c.args.self.now.nexus c.frames.self.nexus c.args.service.now c.frames.service c.answer_frame.new.service
     c.frames.invariant.0.nexus c.frames.invariant.4 c.answer_frame.ensures.calls
 
 pub frames-smaller : goal.frames-smaller
 frames-smaller g c = grind (arith, common_steps)
 
-pub returns-then-len-ge-BATCH-clause-full : goal.returns-then-len-ge-BATCH-clause-full
-returns-then-len-ge-BATCH-clause-full g c = grind (arith, common_steps)
+pub returns-then-len-batch-clause-full : goal.returns-then-len-batch-clause-full
+returns-then-len-batch-clause-full g c = grind (arith, common_steps)

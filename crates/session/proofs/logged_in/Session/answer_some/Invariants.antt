@@ -5,9 +5,9 @@ use Rattle.session.proofs.logged_in.Session.answer_some.Given as goal
 
 abbrev pub invariant-frames : goal.invariant-frames
 invariant-frames g l =
-    Answers g.S.Service.notes l.fn.service (state_of l.fn.self) (state_of l.self) l.service
+    Answers l.profile g.S.Service.notes l.fn.service (state_of l.fn.self) (state_of l.self) l.service
     × (length l.self.read_buffer ≤ length l.fn.self.read_buffer)
-    × HasRoom (vec_len l.self.out) (vec_capacity l.self.out)
+    × HasRoom l.profile (vec_len l.self.out) (vec_capacity l.self.out)
     × (vec_capacity l.fn.self.out ≤ vec_capacity l.self.out)
     × ComesByCalls g.S.Service.notes l.fn.self.nexus l.fn.service l.service
 

@@ -8,9 +8,9 @@ use Rattle.session.proofs.logged_in.Session.serve_frames.Given as goal
 
 abbrev pub invariant-reads : goal.invariant-reads
 invariant-reads g l =
-    Speaks g.S.Service.notes l.fn.service (state_of l.fn.self) (g.R.Read.remaining l.fn.reader) (g.R.Read.remaining l.reader)
+    Speaks l.profile g.S.Service.notes l.fn.service (state_of l.fn.self) (g.R.Read.remaining l.fn.reader) (g.R.Read.remaining l.reader)
     (g.W.Write.contents l.fn.writer) (g.W.Write.contents l.writer) (state_of l.self) l.service
     × (l.self.out.items ≡ [])
-    × HasRoom (vec_len l.self.out) (vec_capacity l.self.out)
-    × ReadsAtMost (l.turn * frame_buffer_size) (g.R.Read.remaining l.fn.reader) (g.R.Read.remaining l.reader)
+    × HasRoom l.profile (vec_len l.self.out) (vec_capacity l.self.out)
+    × ReadsAtMost (l.turn * frame_buffer_size l.profile) (g.R.Read.remaining l.fn.reader) (g.R.Read.remaining l.reader)
     × ComesByCalls g.S.Service.notes l.fn.self.nexus l.fn.service l.service
