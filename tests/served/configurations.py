@@ -34,6 +34,8 @@ profile = "hosts"
 library-id = "1a2b3c4d"
 new-library = true
 memory = "64M"
+metrics = "127.0.0.1:9100"
+metrics-open = false
 workers = 5
 iscsi = ["127.0.0.1:3260", "[::1]:3261=tapes.example:3260"]
 target-name = "iqn.2026-11.example:tapes"
@@ -58,6 +60,7 @@ HOSTS = """
 """
 WOULD_SERVE = """\
 would serve at {socket} and 127.0.0.1:3260 and [::1]:3261: 3 units, 5 workers at each
+metrics: at 127.0.0.1:9100
 profile: hosts, library number 1A2B3C4D
 elements: drives 2, storage 4, import/export 1
 volumes: 3, for 1048576 bytes of blocks each
@@ -226,6 +229,12 @@ APART = {
     "number-of-spec": (
         'profile = "spec"\n', ["--socket", "s", "--library-id", "1A2B3C4D"],
         "--library-id needs --profile hosts: no other library has a number"),
+    "open-metrics": (
+        'metrics = "0.0.0.0:9100"\ndrain = true\n', ["--socket", "s"],
+        "other machines can reach this address: give --metrics-open if all of them may read what is counted: 0.0.0.0:9100"),
+    "metrics-without-records": (
+        'metrics = "127.0.0.1:9100"\n', ["--socket", "s"],
+        "--metrics needs --records or --drain: records are counted as they are written"),
     "nowhere": ("drives = 2\n", [], "nowhere to serve: give --socket <PATH> or --iscsi <ADDRESS:PORT>"),
     "open-portal": (
         'iscsi = ["0.0.0.0:1=tapes.example:1"]\nany-host = true\n', [],

@@ -11,7 +11,7 @@ import time
 import typing
 
 import scsi
-from compare import Wrong, holds, same, same_lines
+from compare import Wrong, holds, lacks, same, same_lines
 from folder import Folder, block
 from host import FIRST_STORAGE, Host
 from play import Row, Tried
@@ -47,19 +47,28 @@ def drive(volume: dict[str, typing.Any] | None, **state: typing.Any) -> dict[str
 
 
 def line_of(*units: dict[str, typing.Any]) -> str:
-    """The line of JSON of a library with these units, without its sessions."""
+    """The line of JSON of a library with these units, without its sessions and its server."""
     return json.dumps({"version": 1, "profile": "spec", "units": units}, separators=(",", ":")) + "\n"
 
 
 def without_sessions(line: str) -> str:
-    """A line of JSON without the sessions that go on, which have a time."""
-    units, _, sessions = line.rpartition(',"sessions":')
-    same("whether sessions are told last", (isinstance(json.loads("{\"sessions\":" + sessions)["sessions"], list), line[-2:]), (True, "}\n"))
+    """A line of JSON without the sessions that go on, which have a time, and without the server, whose memory isn't known. All is written."""
+    units, _, rest = line.rpartition(',"sessions":')
+    told_last = json.loads('{"sessions":' + rest)
+    same("what is told last", (list(told_last), line[-2:]), (["sessions", "memory", "failing"], "}\n"))
+    same("what can't be written", told_last["failing"], {"volumes": [], "inventory": False})
     return units + "}\n"
 
 
+def without_memory(picture: str) -> str:
+    """A picture without the line of the server's memory."""
+    rest, count = re.subn(r"^(Library, profile [a-z]+)\n  memory [0-9]+\.[0-9] MiB\n", r"\1\n", picture)
+    same("how many lines of memory there are", count, 1)
+    return rest
+
+
 def without_drawn_sessions(picture: str) -> str:
-    return re.sub(r"\n\nSession .*", "\n", picture, flags=re.DOTALL)
+    return re.sub(r"\n\nSession .*", "\n", without_memory(picture), flags=re.DOTALL)
 
 
 def at_power_on() -> str:
@@ -144,6 +153,51 @@ Session 1, {NEXUS}
                 break
             time.sleep(0.1)
         same("after their end", sessions_of(tried, path), [])
+
+
+def memory_told(tried: Tried) -> None:
+    """The status has what the system says: in bytes, and in the picture rounded down."""
+    path = tried.path("control")
+    with Server(tried, *SMALL, "--control", path) as server:
+        memory = json.loads(status(tried, path, "--json")[1])["memory"]
+        proc = pathlib.Path(f"/proc/{server.process.pid}/status").read_text(encoding="utf-8")
+        most = int(re.search(r"VmHWM:\s+([0-9]+) kB", proc)[1]) * 1024
+        # The system counts pages of several threads now and then only.
+        same("whether it is in pages, and about what there was at most", (memory % 4096, most / 2 < memory < most + (1 << 20)), (0, True))
+        shown = re.search(r"\n  memory ([0-9]+\.[0-9]) MiB\n", status(tried, path)[1])
+        same("whether the picture has about the same", abs(float(shown[1]) * (1 << 20) - memory) < 1 << 20, True)
+
+
+def await_failing(tried: Tried, path: str, volumes: list[str], inventory: bool) -> str:
+    """Waits until the status says that these can't be written, and gives the picture."""
+    wanted, failing = {"volumes": volumes, "inventory": inventory}, None
+    for _ in range(100):
+        failing = json.loads(status(tried, path, "--json")[1])["failing"]
+        if failing == wanted:
+            break
+        time.sleep(0.1)
+    same("what can't be written", failing, wanted)
+    return status(tried, path)[1]
+
+
+def failing_told(tried: Tried) -> None:
+    """While the disk is full, a volume that was written to, and then the inventory; nothing once there is room again."""
+    path = tried.path("control")
+    with Server(tried, "--media", tried.path("media"), "--new-library", *SMALL, "--control", path, room=1 << 30) as server:
+        host = Host(server, sas=SAS)
+        host.loads()
+        lacks("the picture", await_failing(tried, path, [], False), "failing")
+        server.limit_lines(0)
+        host.writes(b"one")
+        holds("the picture", await_failing(tried, path, ["VOL00001"], False), " MiB\n  failing: VOL00001\n\nLUN 0")
+        other = Host(server, sas=SAS + 1)
+        other.insist(CHANGER, scsi.six(0x00))
+        with contextlib.suppress(ConnectionError):
+            other.asks(CHANGER, scsi.move(0x100, FIRST_STORAGE))
+        picture = await_failing(tried, path, ["VOL00001"], True)
+        holds("the picture", picture, " MiB\n  failing: VOL00001\n  failing: library.toml\n\nLUN 0")
+        server.limit_lines()
+        lacks("the picture", await_failing(tried, path, [], False), "failing")
 
 
 def held_by_all(tried: Tried) -> None:
@@ -328,8 +382,12 @@ def watched_as_picture(tried: Tried) -> None:
         command = [tried.program, "status", "--control", path, "--watch"]
         with subprocess.Popen(command, stdout=subprocess.PIPE, stderr=subprocess.PIPE, text=True) as process:
             assert process.stdout is not None and process.stderr is not None
-            picture = "\x1b[H\x1b[2J" + AT_POWER_ON + "  no volume\n"
-            same("two pictures", process.stdout.read(2 * len(picture)), 2 * picture)
+            head, _, units = (AT_POWER_ON + "  no volume\n").partition("\n")
+            clear = "\x1b[H\x1b[2J"
+            for _ in range(2):
+                same("the beginning of a picture", process.stdout.readline(), f"{clear}{head}\n")
+                holds("its second line", process.stdout.readline(), " MiB\n")
+                same("the rest of it", process.stdout.read(len(units)), units)
             server.end()
             server.ends()
             same("its status once the server has ended", process.wait(patience()), 4)
@@ -377,6 +435,8 @@ ROWS = [
     Row("status-pictured", "the status is shown in lines that say what the library's units are at", pictured),
     Row("status-pictured-folder", "the picture of a kept library has the tags, and what is in the images", pictured_folder),
     Row("status-pictured-whole", "the picture of the largest library has at most 80 columns", pictured_whole),
+    Row("status-memory", "the status has the memory that the system says", memory_told),
+    Row("status-failing", "the status names what can't be written, as long as it can't", failing_told),
     Row("status-held-by-all", "the status shows a reservation of all registrants, and who prevents removal", held_by_all),
     Row("status-unread", "clients that never read the status hold nothing up", unread),
     Row("status-twice", "the status is told to two at a time", twice),

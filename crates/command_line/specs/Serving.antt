@@ -1,10 +1,11 @@
 -- How a library is served by what is given, and by the defaults of what isn't (profile).
-use Rattle.std.specs.Prelude.{ℕ, ◌≡◌, ◌&&◌, ◌||◌, not, Bool, true, List, codes, Option, Some, None, is_some, option_map, unwrap_or, String, string_bytes, if◌then◌else◌}
+use Rattle.std.specs.Prelude.{ℕ, ◌≡◌, ◌&&◌, ◌||◌, not, Bool, true, IfSome, IsTrue, List, codes, Option, Some, None, is_some, option_map, unwrap_or, String, string_bytes, if◌then◌else◌}
 use Rattle.std.specs.Duration.{as_nanos}
 use Rattle.std.specs.Global.{Global}
 use Rattle.output_lines.specs.declared.audit_lines.Audit.{Audit}
 use Rattle.output_lines.specs.declared.audit_lines.Audit.TheVariants.{Lines, Spans}
 use Rattle.program_options.specs.Options.{options_of}
+use Rattle.program_options.specs.Portals.{IsGuarded}
 use Rattle.program_options.specs.Profiles.{is_fitting, made_profile, number_of_target}
 use Rattle.program_options.specs.ServeTimes.{nanos_of, timeout_nanos}
 use Rattle.program_options.specs.declared.given_library.GivenLibrary.{GivenLibrary}
@@ -77,6 +78,9 @@ pub record TimesOf (given : GivenTimes) (times : ServeTimes) : Type 0 where
 pub record IsServedBy (given : GivenOptions) (serving : ServeOptions) : Type 0 where
   pub socket : serving.socket ≡ given.place.socket
   pub control : serving.control ≡ given.place.control
+  pub metrics : serving.metrics ≡ given.metrics.address
+  pub readers : IfSome serving.metrics (IsGuarded (is_on given.metrics.is_open))
+  pub counted : IfSome serving.metrics (λ _. IsTrue (serving.drain || is_some serving.record_file))
   pub media : serving.media ≡ media_of given.media.folder given.media.new_library given.library given.profile
   pub memory : serving.memory ≡ given.media.memory
   pub until : serving.until ≡ until_of given.place

@@ -1,8 +1,8 @@
 //! What the program's commands are and say of themselves.
 
 use crate::options::{
-    AUDIT, CELLS, CHECK, CLIENT, EXPLAIN, EXPLAINED, ISCSI, LIBRARY, LOG, MEDIA, OptionRow, PLACE,
-    PROFILE, PROFILE_ALONE, RECORDS, SOURCE, STATUS, TIMES, with_options,
+    AUDIT, CELLS, CHECK, CLIENT, EXPLAIN, EXPLAINED, ISCSI, LIBRARY, LOG, MEDIA, METRICS,
+    OptionRow, PLACE, PROFILE, PROFILE_ALONE, RECORDS, SOURCE, STATUS, TIMES, with_options,
 };
 use clap::Command;
 use std::alloc::{AllocError, Global};
@@ -33,14 +33,16 @@ Examples: what a file of options would serve, and the same served:
   vtl serve --config examples/vtl.toml --check
   vtl serve --config examples/vtl.toml
 Example: records for other programs:
-  vtl serve --socket /run/vtl/socket --records /var/log/vtl/records.json";
+  vtl serve --socket /run/vtl/socket --records /var/log/vtl/records.json
+Example: metrics for Prometheus, at http://127.0.0.1:9100/metrics:
+  vtl serve --socket /run/vtl/socket --records /var/log/vtl/records.json --metrics 127.0.0.1:9100";
 
 const CLIENT_EXAMPLE: &str =
     "Example: a host that asks logical unit 0 whether it is ready, with the reply in words:
   echo '0 000000000000' | vtl client --socket /run/vtl/socket --sas 500000000000000a --port 1 --explain";
 
 const STATUS_EXAMPLE: &str =
-    "Examples: the library of the package's service, as often as it changes, and as JSON:
+    "Examples: the library of the package's service, every two seconds, and as JSON:
   vtl status --watch
   vtl status --control /run/vtl/control --json";
 
@@ -71,7 +73,7 @@ const COMMANDS: [CommandRow; 6] = [
         about: "Serves the library at a Unix socket, over iSCSI or both, and prints a line for each record",
         examples: SERVE_EXAMPLE,
         tables: &[
-            &SOURCE, &LIBRARY, &PROFILE, &MEDIA, &PLACE, &ISCSI, &RECORDS, &TIMES, &LOG,
+            &SOURCE, &LIBRARY, &PROFILE, &MEDIA, &PLACE, &METRICS, &ISCSI, &RECORDS, &TIMES, &LOG,
         ],
     },
     CommandRow {

@@ -306,6 +306,24 @@ pub(crate) const PLACE: [OptionRow; 4] = [
     },
 ];
 
+/// Where the metrics of a served library are asked for, and by whom.
+pub(crate) const METRICS: [OptionRow; 2] = [
+    OptionRow {
+        name: "metrics",
+        value: OptionValue::Text("ADDRESS:PORT"),
+        presence: Presence::Optional,
+        excludes: None,
+        help: "Where Prometheus asks for metrics, at /metrics: how many records say what, and the state of each unit; needs --records or --drain",
+    },
+    OptionRow {
+        name: "metrics-open",
+        value: OptionValue::Switch,
+        presence: Presence::Optional,
+        excludes: None,
+        help: "Lets other machines read the metrics; without it their address must be one of the loopback",
+    },
+];
+
 /// Where iSCSI initiators connect, which of them may log in, and what they must prove.
 pub(crate) const ISCSI: [OptionRow; 8] = [
     OptionRow {

@@ -9,9 +9,9 @@ use crate::task::{Asked, ClientOptions, ServeAim, ServeLine, StatusOptions, Task
 use clap::ArgMatches;
 use clap::parser::ValueSource;
 use given_options::{
-    GivenIscsi, GivenMedia, GivenOptions, GivenPlace, GivenRecordFile, GivenRecords, GivenTimes,
-    MOST_SESSIONS, digests_by, format_by, hosts_by, library_number_by, memory_size_by, portals_by,
-    profile_by, target_name_by, volume_size_by,
+    GivenIscsi, GivenMedia, GivenMetrics, GivenOptions, GivenPlace, GivenRecordFile, GivenRecords,
+    GivenTimes, MOST_SESSIONS, digests_by, format_by, hosts_by, library_number_by, memory_size_by,
+    metrics_by, portals_by, profile_by, target_name_by, volume_size_by,
 };
 use inquiry_data::LibraryNumber;
 use output_lines::{Audit, Explanations};
@@ -156,6 +156,7 @@ fn given_options_of(alloc: Global, command: &ArgMatches) -> Result<GivenOptions,
         profile: given_profile_of(alloc, command)?,
         media: given_media_of(alloc, command)?,
         place: given_place_of(alloc, command)?,
+        metrics: given_metrics_of(alloc, command)?,
         iscsi: given_iscsi_of(alloc, command)?,
         records: GivenRecords {
             spans: switch_of(command, "spans"),
@@ -267,6 +268,18 @@ fn given_place_of(alloc: Global, command: &ArgMatches) -> Result<GivenPlace, Com
         control: text_of(alloc, command.get_str("control"))?,
         sessions: said_number8(command, "sessions", 1, MOST_SESSIONS),
         workers: said_number8(command, "workers", 1, MOST_SESSIONS),
+    })
+}
+
+/// Where a command has metrics asked for, and by whom.
+fn given_metrics_of(alloc: Global, command: &ArgMatches) -> Result<GivenMetrics, CommandLineFault> {
+    let address = match command.get_str("metrics") {
+        Some(word) => Some(metrics_by(alloc, word)?),
+        None => None,
+    };
+    Ok(GivenMetrics {
+        address,
+        is_open: switch_of(command, "metrics-open"),
     })
 }
 

@@ -5,13 +5,14 @@ ghost use Rattle.program_options.specs.Options.{AreGivenInRange};
 ghost use Rattle.program_options.specs.Portals.{IsGuarded};
 ghost use Rattle.program_options.specs.Profiles.{is_fitting};
 ghost use Rattle.given_options.specs.Ranges.{AreGiven};
+ghost use Rattle.given_options.specs.Switches.{is_on};
 ghost use Rattle.given_options.specs.Rules.{GoTogether};
 ghost use Rattle.command_line.specs.Serving.{IsServedBy, IsTaskOf, TimesOf, audit_of, is_drained, media_of, name_of_target, record_file_of, served_profile, until_of};
 ghost use Rattle.command_line.specs.Tasks.{IsDoable, IsIscsiOptions, IsMediaOptions, IsServeOptions};
 
 use crate::task::{IscsiOptions, MediaOptions, RecordFileOptions, ServeAim, ServeOptions, Task};
 use given_options::{
-    GivenIscsi, GivenMedia, GivenOptions, GivenPlace, GivenRecordFile, GivenRecords, GivenTimes,
+    GivenIscsi, GivenMetrics, GivenOptions, GivenPlace, GivenRecordFile, GivenRecords, GivenTimes,
     open_portal,
 };
 use output_lines::Audit;
@@ -21,6 +22,7 @@ use program_options::{
     most_strangers, number_of_target,
 };
 use std::alloc::{AllocError, Global};
+use std::net::SocketAddr;
 
 /// How many workers serve sessions until standard input ends, where nothing else is asked for.
 const DEFAULT_WORKERS: u8 = 64;
@@ -104,6 +106,7 @@ fn serve_options_of(alloc: Global, given: GivenOptions) -> Result<ServeOptions, 
         profile,
         media,
         place,
+        metrics,
         iscsi,
         records,
         record_file,
@@ -111,11 +114,8 @@ fn serve_options_of(alloc: Global, given: GivenOptions) -> Result<ServeOptions, 
         log,
     } = given;
     let drain = is_drained(records, &place, iscsi.portals.is_some());
-    let GivenMedia {
-        folder,
-        new_library,
-        memory,
-    } = media;
+    let record_file = record_file_of(record_file);
+    let metrics = metrics_of(alloc, metrics, drain || record_file.is_some())?;
     let until = until_of(&place);
     let (socket, control) = (place.socket, place.control);
     let iscsi = iscsi_options_of(alloc, iscsi)?;
@@ -125,15 +125,41 @@ fn serve_options_of(alloc: Global, given: GivenOptions) -> Result<ServeOptions, 
     Ok(ServeOptions {
         socket,
         control,
+        metrics,
         iscsi,
-        media: media_options_of(folder, new_library, library, profile),
-        memory,
+        media: media_options_of(media.folder, media.new_library, library, profile),
+        memory: media.memory,
         until,
         drain,
-        record_file: record_file_of(record_file),
+        record_file,
         times: times_of(times),
         log: log.unwrap_or(false),
     })
+}
+
+/// Where metrics are asked for, if somewhere. Where other machines can read them that must be said, and records must be taken while the
+/// library is served, as they are counted then.
+fn metrics_of(
+    alloc: Global,
+    given: GivenMetrics,
+    is_counted: bool,
+) -> Result<Option<SocketAddr>, CommandLineFault>
+    ensures same { IfOk result (λ metrics. metrics ≡ given.address) }
+    ensures guarded { IfOk result (λ metrics. IfSome metrics (IsGuarded (is_on given.is_open))) }
+    ensures counted { IfOk result (λ metrics. IfSome metrics (λ _. is_counted ≡ true)) }
+{
+    let Some(address) = given.address else {
+        return Ok(None);
+    };
+    if !given.is_open.unwrap_or(false) && !address.ip().is_loopback() {
+        let word = address.to_string(alloc)?;
+        return Err(CommandLineFault::Word(OptionFault::OpenMetrics, word));
+    }
+    if is_counted {
+        Ok(Some(address))
+    } else {
+        Err(CommandLineFault::Options(OptionFault::UncountedRecords))
+    }
 }
 
 /// Where a library is kept, if it is to be, and what it has to agree with.

@@ -6,6 +6,7 @@ use program_options::{
 };
 use scsi_cdb::{Class, Profile};
 use scsi_nexus::Nexus;
+use std::net::SocketAddr;
 
 /// What the program is asked to do.
 #[derive(Drop)]
@@ -64,6 +65,8 @@ pub struct ServeOptions {
     pub socket: Option<String>,
     /// The path of the file of the socket at which the library's status is asked for, if there is to be one.
     pub control: Option<String>,
+    /// Where the library's metrics are asked for, if somewhere.
+    pub metrics: Option<SocketAddr>,
     /// What iSCSI initiators connect to, if any may.
     pub iscsi: Option<IscsiOptions>,
     /// Where the library is kept, if it is to be.

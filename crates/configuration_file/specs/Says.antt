@@ -11,15 +11,16 @@ use Rattle.program_options.specs.declared.given_profile.GivenProfile.{GivenProfi
 use Rattle.toml.specs.Data.{Data, Members, no_members, member, get_member}
 use Rattle.given_options.specs.Keys.{key_text}
 use Rattle.given_options.specs.declared.key.ServeKey.{ServeKey}
-use Rattle.given_options.specs.declared.key.ServeKey.TheVariants.{Drives, Slots, Portals, Volumes, VolumeSize, Profile, LibraryId, Media, NewLibrary, Memory, Socket, Control, Sessions, Workers, TargetName, AnyHost, Multipath, Chap, ChapDigests, NoAuthentication, Spans, Drain, KeepRecords, Records, Format, Grace, LoginTimeout, IdleTimeout, WriteTimeout, IdlePing, Log}
+use Rattle.given_options.specs.declared.key.ServeKey.TheVariants.{Drives, Slots, Portals, Volumes, VolumeSize, Profile, LibraryId, Media, NewLibrary, Memory, Socket, Control, Metrics, MetricsOpen, Sessions, Workers, TargetName, AnyHost, Multipath, Chap, ChapDigests, NoAuthentication, Spans, Drain, KeepRecords, Records, Format, Grace, LoginTimeout, IdleTimeout, WriteTimeout, IdlePing, Log}
 use Rattle.given_options.specs.declared.options.GivenIscsi.{GivenIscsi}
 use Rattle.given_options.specs.declared.options.GivenMedia.{GivenMedia}
+use Rattle.given_options.specs.declared.options.GivenMetrics.{GivenMetrics}
 use Rattle.given_options.specs.declared.options.GivenOptions.{GivenOptions}
 use Rattle.given_options.specs.declared.options.GivenPlace.{GivenPlace}
 use Rattle.given_options.specs.declared.options.GivenRecords.{GivenRecords}
 use Rattle.given_options.specs.declared.options.GivenRecordFile.{GivenRecordFile}
 use Rattle.given_options.specs.declared.options.GivenTimes.{GivenTimes}
-use Rattle.configuration_file.specs.Values.{name_said, number_said, switch_said, text_said, word_said}
+use Rattle.configuration_file.specs.Values.{IsAddressSaid, name_said, number_said, switch_said, text_said, word_said}
 
 -- the key is one of these
 abbrev pub is_key : (keys : List ServeKey) → (name : List ℕ) → Bool
@@ -55,6 +56,10 @@ pub record SaysPlace (members : Members) (given : GivenPlace) : Type 0 where
   pub sessions : number_said 1 64 (at Sessions members) ≡ Some given.sessions
   pub workers : number_said 1 64 (at Workers members) ≡ Some given.workers
 
+pub record SaysMetrics (members : Members) (given : GivenMetrics) : Type 0 where
+  pub address : IsAddressSaid (at Metrics members) given.address
+  pub is_open : switch_said (at MetricsOpen members) ≡ Some given.is_open
+
 -- the portals and the hosts are read as on the command line, each by its word
 pub record SaysIscsi (members : Members) (given : GivenIscsi) : Type 0 where
   pub target_name : name_said (at TargetName members) ≡ Some (option_map string_bytes given.target_name)
@@ -86,6 +91,7 @@ pub record Says (members : Members) (given : GivenOptions) : Type 0 where
   pub profile : SaysProfile members given.profile
   pub media : SaysMedia members given.media
   pub place : SaysPlace members given.place
+  pub metrics : SaysMetrics members given.metrics
   pub iscsi : SaysIscsi members given.iscsi
   pub records : SaysRecords members given.records
   pub record_file : SaysRecordFile members given.record_file

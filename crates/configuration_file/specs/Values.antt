@@ -1,7 +1,9 @@
 -- What a value of a file says of an option: outside `None` where it isn't one that the option may have, inside `None` where there is no
 -- value (profile).
-use Rattle.std.specs.Prelude.{ℕ, ℤ, ◌&&◌, int_le, unsigned_abs, Bool, List, pos, Option, Some, None, Result, option_and_then, option_map, if◌then◌else◌}
+use Rattle.std.specs.Prelude.{ℕ, ℤ, ◌≡◌, ◌&&◌, int_le, unsigned_abs, Bool, List, pos, Option, Some, None, Result, option_and_then, option_map, if◌then◌else◌}
 use Rattle.std.specs.Result.{result_ok}
+use Rattle.std.specs.Net.Grammar.{IsSocketText}
+use Rattle.std.specs.declared.net.socket_addr.SocketAddr.{SocketAddr}
 use Rattle.iscsi_keys.specs.IscsiNames.{is_iscsi_name}
 use Rattle.program_options.specs.declared.option_fault.OptionFault.{OptionFault}
 use Rattle.toml.specs.Data.{Data, as_bool, as_integer, as_str}
@@ -39,3 +41,10 @@ word_said read value = said_by (λ d. word_of read (as_str d)) value
 
 abbrev pub name_said : Option Data → Option (Option (List ℕ))
 name_said value = said_by (λ d. name_of (as_str d)) value
+
+-- an IP address with a port
+abbrev pub IsAddressSaid : Option Data → Option SocketAddr → Type 0
+IsAddressSaid None None = Unit {0}
+IsAddressSaid None (Some address) = ⊥
+IsAddressSaid (Some value) None = ⊥
+IsAddressSaid (Some value) (Some address) = (text : List ℕ) × (as_str value ≡ Some text) × IsSocketText text address

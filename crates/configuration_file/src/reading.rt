@@ -5,7 +5,7 @@ ghost use Rattle.toml.specs.Data.{Members};
 ghost use Rattle.toml.specs.Parse.{parse_document};
 ghost use Rattle.toml.specs.View.{table_view};
 ghost use Rattle.given_options.specs.Ranges.{AreGiven};
-ghost use Rattle.configuration_file.specs.Says.{Says, SaysIscsi, SaysLibrary, SaysMedia, SaysPlace, SaysProfile, SaysRecordFile, SaysRecords, SaysTimes, are_keys, is_key};
+ghost use Rattle.configuration_file.specs.Says.{Says, SaysIscsi, SaysLibrary, SaysMedia, SaysMetrics, SaysPlace, SaysProfile, SaysRecordFile, SaysRecords, SaysTimes, are_keys, is_key};
 
 use crate::fault::ConfigurationFault;
 use crate::key_fault::KeyFault;
@@ -13,12 +13,12 @@ use crate::lines::line_of_key;
 use crate::text_fault::TextFault;
 use crate::texts::{hosts_at, portals_at};
 use crate::values::{
-    byte_at, digests_at, format_at, library_number_at, memory_size_at, number_at, profile_at,
-    short_at, switch_at, target_name_at, text_at, volume_size_at,
+    byte_at, digests_at, format_at, library_number_at, memory_size_at, metrics_at, number_at,
+    profile_at, short_at, switch_at, target_name_at, text_at, volume_size_at,
 };
 use given_options::{
-    GivenIscsi, GivenMedia, GivenOptions, GivenPlace, GivenRecordFile, GivenRecords, GivenTimes,
-    MOST_SESSIONS, SERVE_KEYS, ServeKey,
+    GivenIscsi, GivenMedia, GivenMetrics, GivenOptions, GivenPlace, GivenRecordFile, GivenRecords,
+    GivenTimes, MOST_SESSIONS, SERVE_KEYS, ServeKey,
 };
 use program_options::{GivenLibrary, GivenProfile, LibraryOptions, ServeTimes};
 use std::alloc::{AllocError, Global};
@@ -100,6 +100,7 @@ fn options_in(alloc: Global, table: &Table) -> Result<GivenOptions, KeyFault>
         profile: profile_in(alloc, table)?,
         media: media_in(alloc, table)?,
         place: place_in(alloc, table)?,
+        metrics: metrics_in(alloc, table)?,
         iscsi: iscsi_in(alloc, table)?,
         records: records_in(table)?,
         record_file: record_file_in(alloc, table)?,
@@ -179,6 +180,15 @@ fn place_in(alloc: Global, table: &Table) -> Result<GivenPlace, KeyFault>
         control: text_at(alloc, table, ServeKey::Control)?,
         sessions: byte_at(table, ServeKey::Sessions, 1, MOST_SESSIONS)?,
         workers: byte_at(table, ServeKey::Workers, 1, MOST_SESSIONS)?,
+    })
+}
+
+fn metrics_in(alloc: Global, table: &Table) -> Result<GivenMetrics, KeyFault>
+    ensures { IfOk result (SaysMetrics (table_view table.now)) }
+{
+    Ok(GivenMetrics {
+        address: metrics_at(alloc, table)?,
+        is_open: switch_at(table, ServeKey::MetricsOpen)?,
     })
 }
 

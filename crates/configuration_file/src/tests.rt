@@ -27,6 +27,8 @@ new-library = true
 memory = \"4G\"
 socket = \"/s\"
 control = \"/c\"
+metrics = \"127.0.0.1:9100\"
+metrics-open = false
 sessions = 3
 workers = 5
 iscsi = [\"127.0.0.1:3260\", \"[::1]:3260=a:1\"]
@@ -67,6 +69,8 @@ fn reads_every_option(rt: HostRuntime) -> Result<(), Fail> {
     assert_eq!(rt; given.media.new_library, Some(true));
     assert_eq!(rt; given.media.memory, Some(4_294_967_296));
     assert!(rt; given.place.control.is_some());
+    assert!(rt; given.metrics.address.is_some());
+    assert_eq!(rt; given.metrics.is_open, Some(false));
     assert_eq!(rt; given.place.sessions, Some(3));
     assert_eq!(rt; given.place.workers, Some(5));
     assert_eq!(rt; given.iscsi.any_host, Some(true));

@@ -9,18 +9,19 @@ ghost use Rattle.program_options.specs.Sizes.{memory_size_in, volume_size_in};
 ghost use Rattle.toml.specs.Data.{as_integer, as_str, get_member};
 ghost use Rattle.toml.specs.View.{table_view, view};
 ghost use Rattle.configuration_file.specs.Says.{at};
-ghost use Rattle.configuration_file.specs.Values.{name_said, number_of, number_said, switch_said, text_said, word_said};
+ghost use Rattle.configuration_file.specs.Values.{IsAddressSaid, name_said, number_of, number_said, switch_said, text_said, word_said};
 
 use crate::form::ValueForm;
 use crate::key_fault::{KeyFault, ValueFault};
 use given_options::{
-    ServeKey, digests_by, format_by, library_number_by, memory_size_by, profile_by, target_name_by,
-    volume_size_by,
+    ServeKey, digests_by, format_by, library_number_by, memory_size_by, metrics_by, profile_by,
+    target_name_by, volume_size_by,
 };
 use inquiry_data::LibraryNumber;
 use program_options::{ChapDigests, RecordFormat};
 use scsi_cdb::Profile;
 use std::alloc::Global;
+use std::net::SocketAddr;
 use toml::{Table, Value};
 
 /// The value at an option's key.
@@ -229,6 +230,20 @@ pub(crate) fn memory_size_at(alloc: Global, table: &Table) -> Result<Option<u64>
     };
     match memory_size_by(alloc, word_in(value, key)?) {
         Ok(size) => Ok(Some(size)),
+        Err(fault) => Err(KeyFault::of_words(key, ValueForm::Text, fault)),
+    }
+}
+
+/// Where metrics are asked for, if it is said.
+pub(crate) fn metrics_at(alloc: Global, table: &Table) -> Result<Option<SocketAddr>, KeyFault>
+    ensures { IfOk result (IsAddressSaid (at ServeKey.Metrics (table_view table.now))) }
+{
+    let key = ServeKey::Metrics;
+    let Some(value) = value_at(table, key) else {
+        return Ok(None);
+    };
+    match metrics_by(alloc, word_in(value, key)?) {
+        Ok(address) => Ok(Some(address)),
         Err(fault) => Err(KeyFault::of_words(key, ValueForm::Text, fault)),
     }
 }

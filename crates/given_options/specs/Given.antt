@@ -2,7 +2,7 @@
 use Rattle.std.specs.Prelude.{Bool, is_some}
 use Rattle.given_options.specs.Switches.{is_on}
 use Rattle.given_options.specs.declared.key.ServeKey.{ServeKey}
-use Rattle.given_options.specs.declared.key.ServeKey.TheVariants.{Drives, Slots, Portals, Volumes, VolumeSize, Profile, LibraryId, Media, NewLibrary, Memory, Socket, Control, Sessions, Workers, Iscsi, TargetName, Hosts, AnyHost, Multipath, Chap, ChapDigests, NoAuthentication, Spans, Drain, KeepRecords, Records, Format, Grace, LoginTimeout, IdleTimeout, WriteTimeout, IdlePing, Log}
+use Rattle.given_options.specs.declared.key.ServeKey.TheVariants.{Drives, Slots, Portals, Volumes, VolumeSize, Profile, LibraryId, Media, NewLibrary, Memory, Socket, Control, Metrics, MetricsOpen, Sessions, Workers, Iscsi, TargetName, Hosts, AnyHost, Multipath, Chap, ChapDigests, NoAuthentication, Spans, Drain, KeepRecords, Records, Format, Grace, LoginTimeout, IdleTimeout, WriteTimeout, IdlePing, Log}
 use Rattle.given_options.specs.declared.options.GivenOptions.{GivenOptions}
 
 abbrev pub is_given : ServeKey → GivenOptions → Bool
@@ -18,6 +18,8 @@ is_given NewLibrary given = is_on given.media.new_library
 is_given Memory given = is_some given.media.memory
 is_given Socket given = is_some given.place.socket
 is_given Control given = is_some given.place.control
+is_given Metrics given = is_some given.metrics.address
+is_given MetricsOpen given = is_on given.metrics.is_open
 is_given Sessions given = is_some given.place.sessions
 is_given Workers given = is_some given.place.workers
 is_given Iscsi given = is_some given.iscsi.portals

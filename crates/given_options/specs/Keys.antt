@@ -1,7 +1,7 @@
 -- The names of options of `vtl serve`: on the command line, and as keys of a file of configuration (profile).
 use Rattle.std.specs.Prelude.{ℕ, List, codes}
 use Rattle.given_options.specs.declared.key.ServeKey.{ServeKey}
-use Rattle.given_options.specs.declared.key.ServeKey.TheVariants.{Drives, Slots, Portals, Volumes, VolumeSize, Profile, LibraryId, Media, NewLibrary, Memory, Socket, Control, Sessions, Workers, Iscsi, TargetName, Hosts, AnyHost, Multipath, Chap, ChapDigests, NoAuthentication, Spans, Drain, KeepRecords, Records, Format, Grace, LoginTimeout, IdleTimeout, WriteTimeout, IdlePing, Log}
+use Rattle.given_options.specs.declared.key.ServeKey.TheVariants.{Drives, Slots, Portals, Volumes, VolumeSize, Profile, LibraryId, Media, NewLibrary, Memory, Socket, Control, Metrics, MetricsOpen, Sessions, Workers, Iscsi, TargetName, Hosts, AnyHost, Multipath, Chap, ChapDigests, NoAuthentication, Spans, Drain, KeepRecords, Records, Format, Grace, LoginTimeout, IdleTimeout, WriteTimeout, IdlePing, Log}
 
 -- a key of a file
 abbrev pub key_text : ServeKey → List ℕ
@@ -17,6 +17,8 @@ key_text NewLibrary = codes "new-library"
 key_text Memory = codes "memory"
 key_text Socket = codes "socket"
 key_text Control = codes "control"
+key_text Metrics = codes "metrics"
+key_text MetricsOpen = codes "metrics-open"
 key_text Sessions = codes "sessions"
 key_text Workers = codes "workers"
 key_text Iscsi = codes "iscsi"

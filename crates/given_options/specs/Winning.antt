@@ -5,6 +5,7 @@ use Rattle.program_options.specs.declared.given_profile.GivenProfile.{GivenProfi
 use Rattle.given_options.specs.declared.options.GivenOptions.{GivenOptions}
 use Rattle.given_options.specs.declared.options.GivenMedia.{GivenMedia}
 use Rattle.given_options.specs.declared.options.GivenPlace.{GivenPlace}
+use Rattle.given_options.specs.declared.options.GivenMetrics.{GivenMetrics}
 use Rattle.given_options.specs.declared.options.GivenIscsi.{GivenIscsi}
 use Rattle.given_options.specs.declared.options.GivenRecords.{GivenRecords}
 use Rattle.given_options.specs.declared.options.GivenRecordFile.{GivenRecordFile}
@@ -38,6 +39,12 @@ winning_place first second = record {
   control = option_or first.control second.control;
   sessions = option_or first.sessions second.sessions;
   workers = option_or first.workers second.workers;
+}
+
+abbrev pub winning_metrics : (first second : GivenMetrics) → GivenMetrics
+winning_metrics first second = record {
+  address = option_or first.address second.address;
+  is_open = option_or first.is_open second.is_open;
 }
 
 -- portals and hosts are those of one source, and not of both
@@ -82,6 +89,7 @@ winning_options first second = record {
   profile = winning_profile first.profile second.profile;
   media = winning_media first.media second.media;
   place = winning_place first.place second.place;
+  metrics = winning_metrics first.metrics second.metrics;
   iscsi = winning_iscsi first.iscsi second.iscsi;
   records = winning_records first.records second.records;
   record_file = winning_record_file first.record_file second.record_file;

@@ -16,6 +16,8 @@ pub enum ServeKey {
     Memory,
     Socket,
     Control,
+    Metrics,
+    MetricsOpen,
     Sessions,
     Workers,
     Iscsi,
@@ -40,7 +42,7 @@ pub enum ServeKey {
 }
 
 /// All of them.
-pub const SERVE_KEYS: [ServeKey; 33] = [
+pub const SERVE_KEYS: [ServeKey; 35] = [
     ServeKey::Drives,
     ServeKey::Slots,
     ServeKey::Portals,
@@ -53,6 +55,8 @@ pub const SERVE_KEYS: [ServeKey; 33] = [
     ServeKey::Memory,
     ServeKey::Socket,
     ServeKey::Control,
+    ServeKey::Metrics,
+    ServeKey::MetricsOpen,
     ServeKey::Sessions,
     ServeKey::Workers,
     ServeKey::Iscsi,
@@ -94,6 +98,8 @@ impl ServeKey {
             ServeKey::Memory => "memory",
             ServeKey::Socket => "socket",
             ServeKey::Control => "control",
+            ServeKey::Metrics => "metrics",
+            ServeKey::MetricsOpen => "metrics-open",
             ServeKey::Sessions => "sessions",
             ServeKey::Workers => "workers",
             ServeKey::Iscsi => "iscsi",

@@ -13,13 +13,13 @@ mod words;
 pub use key::{SERVE_KEYS, ServeKey};
 pub use laws::worked_rows;
 pub use options::{
-    GivenIscsi, GivenMedia, GivenOptions, GivenPlace, GivenRecordFile, GivenRecords, GivenTimes,
-    MOST_SESSIONS,
+    GivenIscsi, GivenMedia, GivenMetrics, GivenOptions, GivenPlace, GivenRecordFile, GivenRecords,
+    GivenTimes, MOST_SESSIONS,
 };
 pub use portal_guard::open_portal;
 pub use rule::OptionRule;
 pub use word_fault::WordFault;
 pub use words::{
-    digests_by, format_by, hosts_by, library_number_by, memory_size_by, portals_by, profile_by,
-    target_name_by, volume_size_by,
+    digests_by, format_by, hosts_by, library_number_by, memory_size_by, metrics_by, portals_by,
+    profile_by, target_name_by, volume_size_by,
 };

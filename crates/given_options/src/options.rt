@@ -6,6 +6,7 @@ use crate::key::ServeKey;
 use program_options::{
     ChapDigests, GivenLibrary, GivenProfile, NamedHost, PortalOptions, RecordFormat,
 };
+use std::net::SocketAddr;
 
 /// The most sessions, and the most workers at a place (profile).
 pub const MOST_SESSIONS: u8 = 64;
@@ -21,6 +22,7 @@ pub struct GivenOptions {
     pub profile: GivenProfile,
     pub media: GivenMedia,
     pub place: GivenPlace,
+    pub metrics: GivenMetrics,
     pub iscsi: GivenIscsi,
     pub records: GivenRecords,
     pub record_file: GivenRecordFile,
@@ -51,6 +53,14 @@ pub struct GivenPlace {
     pub sessions: Option<u8>,
     /// How many sessions there may be at a time at each place.
     pub workers: Option<u8>,
+}
+
+/// Where the library's metrics are asked for, and by whom.
+#[derive(Clone, Copy)]
+pub struct GivenMetrics {
+    pub address: Option<SocketAddr>,
+    /// Whether other machines may read them.
+    pub is_open: Option<bool>,
 }
 
 /// Where iSCSI initiators connect, which of them may log in, and what they must prove.
@@ -150,6 +160,19 @@ impl GivenPlace {
     }
 }
 
+impl GivenMetrics {
+    ghost use Rattle.given_options.specs.Winning.{winning_metrics};
+
+    fn over(self, other: GivenMetrics) -> GivenMetrics
+        ensures { result ≡ winning_metrics self other }
+    {
+        GivenMetrics {
+            address: self.address.or(other.address),
+            is_open: self.is_open.or(other.is_open),
+        }
+    }
+}
+
 impl GivenIscsi {
     ghost use Rattle.given_options.specs.Winning.{winning_iscsi};
 
@@ -229,6 +252,7 @@ impl GivenOptions {
             profile: profile_over(self.profile, file.profile),
             media: self.media.over(file.media),
             place: self.place.over(file.place),
+            metrics: self.metrics.over(file.metrics),
             iscsi: self.iscsi.over(file.iscsi),
             records: self.records.over(file.records),
             record_file: self.record_file.over(file.record_file),
@@ -254,6 +278,8 @@ impl GivenOptions {
             ServeKey::Memory => self.media.memory.is_some(),
             ServeKey::Socket => self.place.socket.is_some(),
             ServeKey::Control => self.place.control.is_some(),
+            ServeKey::Metrics => self.metrics.address.is_some(),
+            ServeKey::MetricsOpen => is_on(self.metrics.is_open),
             ServeKey::Sessions => self.place.sessions.is_some(),
             ServeKey::Workers => self.place.workers.is_some(),
             ServeKey::Iscsi => self.iscsi.portals.is_some(),

@@ -13,7 +13,7 @@ pub enum OptionRule {
 }
 
 /// The rules. Of several that are broken the first is reported.
-const RULES: [OptionRule; 17] = [
+const RULES: [OptionRule; 18] = [
     OptionRule::Excludes(ServeKey::Workers, ServeKey::Sessions),
     OptionRule::Excludes(ServeKey::Sessions, ServeKey::Iscsi),
     OptionRule::Excludes(ServeKey::Drain, ServeKey::Spans),
@@ -31,6 +31,7 @@ const RULES: [OptionRule; 17] = [
     OptionRule::Needs(ServeKey::Chap, ServeKey::Iscsi),
     OptionRule::Needs(ServeKey::ChapDigests, ServeKey::Chap),
     OptionRule::Needs(ServeKey::NoAuthentication, ServeKey::Iscsi),
+    OptionRule::Needs(ServeKey::MetricsOpen, ServeKey::Metrics),
 ];
 
 impl OptionRule {

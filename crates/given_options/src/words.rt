@@ -7,18 +7,21 @@ ghost use Rattle.program_options.specs.Profiles.{number_in, profile_in};
 ghost use Rattle.program_options.specs.RecordFormats.{format_in};
 ghost use Rattle.program_options.specs.Sizes.{memory_size_in, volume_size_in};
 ghost use Rattle.program_options.specs.declared.option_fault.OptionFault.{OptionFault};
+ghost use Rattle.std.specs.Net.Grammar.{IsSocketText};
+ghost use Rattle.std.specs.declared.net.socket_addr.SocketAddr.{SocketAddr};
 ghost use Rattle.given_options.specs.Words.{IsRefusal};
 
 use crate::word_fault::WordFault;
 use inquiry_data::LibraryNumber;
 use program_options::{
     ChapDigests, NamedHost, OptionFault, PortalOptions, RecordFormat, chap_digests_of, host_beside,
-    is_iscsi_name, library_number_of, memory_size_of, portal_of, profile_of, record_format_of,
-    volume_size_of,
+    is_iscsi_name, library_number_of, memory_size_of, metrics_address_of, portal_of, profile_of,
+    record_format_of, volume_size_of,
 };
 use scsi_cdb::Profile;
 use std::alloc::{AllocError, Global};
 use std::convert::AsStr;
+use std::net::SocketAddr;
 
 /// The most portals: as many as the target has ports (profile).
 const MOST_PORTALS: usize = 4;
@@ -74,6 +77,17 @@ pub fn memory_size_by(alloc: Global, word: &str) -> Result<u64, WordFault>
 {
     match memory_size_of(word) {
         Ok(size) => Ok(size),
+        Err(fault) => Err(refused_word(alloc, fault, word)),
+    }
+}
+
+/// Where metrics are asked for. Whether other machines may read them there is judged once all sources are read.
+pub fn metrics_by(alloc: Global, word: &str) -> Result<SocketAddr, WordFault>
+    ensures ok { IfOk result (λ address. IsSocketText word.now address) }
+    ensures err { IfErr result (λ refusal. IsRefusal OptionFault.BadAddress word.now refusal × ((address : SocketAddr) → ¬ IsSocketText word.now address)) }
+{
+    match metrics_address_of(word) {
+        Ok(address) => Ok(address),
         Err(fault) => Err(refused_word(alloc, fault, word)),
     }
 }

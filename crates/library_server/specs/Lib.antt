@@ -1,6 +1,8 @@
 pub mod Batches
 pub mod Faults
 pub mod Notices
+pub mod Memory
+pub mod Metrics
 pub mod Places
 pub mod Rows
 pub mod ServedLibrary

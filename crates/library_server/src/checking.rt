@@ -40,6 +40,7 @@ pub fn check_serving<R: AllocGlobal + Files<File = File>, W: Write, E: Write>(
     let ServeOptions {
         socket,
         control,
+        metrics,
         iscsi,
         media,
         memory,
@@ -64,6 +65,7 @@ pub fn check_serving<R: AllocGlobal + Files<File = File>, W: Write, E: Write>(
     let places = ServedPlaces {
         socket: &socket,
         control: &control,
+        metrics,
         made: &made,
         until,
     };

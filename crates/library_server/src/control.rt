@@ -4,14 +4,16 @@
 ghost use Rattle.std.specs.Prelude.{◌≤◌, IfOk, string_bytes};
 ghost use Rattle.library_server.specs.Status.{IsStatus};
 
+use crate::server_state::summary_of_server;
+use crate::serving::ServiceMeans;
 use crate::session_summaries::sessions_of;
 use kept_unit::Ledgers;
 use library_start::Device;
 use library_status::status_text;
 use lun_router::{Library, Pass};
-use server::{Event, LiveSessions, Teller};
+use server::{Event, LiveSessions};
 use status_reader::read_library;
-use std::alloc::{AllocError, Global};
+use std::alloc::AllocError;
 use std::io::{self, ErrorKind, Write};
 use std::net::Shutdown;
 use std::os::fd::OwnedFd;
@@ -56,19 +58,18 @@ impl ControlSocket {
     /// Answers one connection after another, until the socket is shut down.
     pub(crate) fn answer_all<B: Ledgers, R: Clock + Wait, E: Write>(
         &self,
-        rt: &R,
-        alloc: Global,
+        means: &ServiceMeans<'_, '_, R, E>,
         library: &Library<B, Device, Pass>,
         sessions: &LiveSessions,
-        teller: &Teller<E>,
     ) {
+        let (rt, teller) = (means.rt, means.teller);
         'turns: for _turn in rt.forever() {
             let accepted = self.listener.accept();
             if self.is_over.load(Ordering::SeqCst) {
                 return;
             }
             match accepted {
-                Ok((stream, _)) => answer(rt, alloc, library, sessions, &stream, teller),
+                Ok((stream, _)) => answer(means, library, sessions, &stream),
                 Err(_) => {
                     teller.tell(rt, &Event::NotAccepted);
                     thread::sleep(rt, Duration::from_millis(PAUSE));
@@ -80,14 +81,13 @@ impl ControlSocket {
 
 /// Sends the status of a library, and reports it if that fails.
 fn answer<B: Ledgers, R: Clock + Wait, E: Write>(
-    rt: &R,
-    alloc: Global,
+    means: &ServiceMeans<'_, '_, R, E>,
     library: &Library<B, Device, Pass>,
     sessions: &LiveSessions,
     stream: &UnixStream,
-    teller: &Teller<E>,
 ) {
-    let is_sent = match status_of(rt, alloc, library, sessions) {
+    let (rt, teller) = (means.rt, means.teller);
+    let is_sent = match status_of(means, library, sessions) {
         Ok(text) => send(rt, stream, text.as_bytes()).is_ok(),
         Err(_) => false,
     };
@@ -96,18 +96,19 @@ fn answer<B: Ledgers, R: Clock + Wait, E: Write>(
     }
 }
 
-/// The status of a library and of the sessions that go on: a line of JSON and a picture. May wait for calls at units.
-fn status_of<B: Ledgers, R: Wait>(
-    rt: &R,
-    alloc: Global,
+/// The status of a library, of the sessions that go on and of the server: a line of JSON and a picture. May wait for calls at units.
+fn status_of<B: Ledgers, R: Wait, E: Write>(
+    means: &ServiceMeans<'_, '_, R, E>,
     library: &Library<B, Device, Pass>,
     sessions: &LiveSessions,
 ) -> Result<String, AllocError>
     ensures { IfOk result (λ text. IsStatus B.profile library.now.units (string_bytes text)) }
 {
+    let (rt, alloc) = (means.rt, means.alloc);
     let summary = read_library(rt, alloc, library)?;
     let live = sessions_of(rt, alloc, sessions)?;
-    let text = status_text(alloc, &summary, &live)?;
+    let server = summary_of_server(alloc, means.files, means.keeper)?;
+    let text = status_text(alloc, &summary, &live, &server)?;
     Ok(text)
 }
 

@@ -5,7 +5,8 @@ use audit_log::Record;
 use kept_unit::Ledgers;
 use library_start::Device;
 use lun_router::{Library, Pass};
-use std::sync::Wait;
+use record_lines::RecordCounts;
+use std::sync::{Mutex, Wait};
 
 /// Units whose records are handed out: a library, whichever ledgers it has.
 pub(crate) trait RecordSource {
@@ -41,5 +42,37 @@ impl<B: Ledgers> RecordSource for Library<B, Device, Pass> {
 
     fn drain_into<R: Wait>(&self, rt: &R, lun: u8, records: &mut Vec<Record>) -> bool {
         Library::drain_into(self, rt, lun, records)
+    }
+}
+
+/// Units whose records are counted as they are taken.
+#[derive(Drop)]
+pub(crate) struct CountedSource<'a, D> {
+    pub source: &'a D,
+    pub counts: &'a Mutex<RecordCounts>,
+}
+
+impl<'a, D: RecordSource> RecordSource for CountedSource<'a, D> {
+    ghost count = { λ counted. D.count counted.source.now };
+
+    ghost hands_out = { λ counted lun records. D.hands_out counted.source.now lun records };
+
+    fn units(&self) -> u8 {
+        self.source.units()
+    }
+
+    fn drain_into<R: Wait>(&self, rt: &R, lun: u8, records: &mut Vec<Record>) -> bool {
+        let is_there = self.source.drain_into(rt, lun, records);
+        // What isn't there has handed none out.
+        count_all(rt, self.counts, records);
+        is_there
+    }
+}
+
+/// Counts records. Who asks for metrics waits meanwhile.
+fn count_all<R: Wait>(rt: &R, counts: &Mutex<RecordCounts>, records: &[Record]) {
+    let mut counts = counts.lock(rt);
+    for entry in records {
+        counts.count(entry);
     }
 }

@@ -10,6 +10,7 @@ use output_lines::Audit;
 use program_options::{PortalOptions, ServeTimes, ServeUntil};
 use server::Paths;
 use std::io::{self, Write};
+use std::net::SocketAddr;
 use std::time::Duration;
 use tape_medium::VolumeTag;
 
@@ -18,6 +19,7 @@ use tape_medium::VolumeTag;
 pub(crate) struct ServedPlaces<'a> {
     pub socket: &'a Option<String>,
     pub control: &'a Option<String>,
+    pub metrics: Option<SocketAddr>,
     pub made: &'a PortalTarget,
     pub until: ServeUntil,
 }
@@ -76,8 +78,11 @@ fn write_places<W: Write>(out: &mut W, places: &ServedPlaces<'_>, drives: u8) ->
     let more = plural(workers);
     let at_each = at_each(count);
     writeln!(out, ": {units} units, {workers} worker{more}{at_each}")?;
-    match places.control {
-        Some(path) => writeln!(out, "status: at {path}"),
+    if let Some(path) = places.control {
+        writeln!(out, "status: at {path}")?;
+    }
+    match places.metrics {
+        Some(address) => writeln!(out, "metrics: at {address}"),
         None => Ok(()),
     }
 }

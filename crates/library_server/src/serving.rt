@@ -17,7 +17,8 @@ use crate::control::ControlSocket;
 use crate::handing_out::hand_out_as_asked;
 use crate::keeping::keep_at_the_end;
 use crate::library_tapes::LibraryTapes;
-use crate::record_source::RecordSource;
+use crate::metrics::MetricsSocket;
+use crate::record_source::{CountedSource, RecordSource};
 use crate::recording::{RecordSink, record_the_rest, record_while_served};
 use crate::saved_library::FolderKeeper;
 use crate::server_fault::{ServerFault, closing_fault, earlier, own_fault, told_of};
@@ -51,12 +52,16 @@ pub struct ServiceMeans<'a, 'f, R: Wait, E: Write> {
     pub rt: &'a R,
     pub alloc: Global,
     pub records: RecordOutput,
+    /// By which the system is asked how much memory the server has.
+    pub files: &'f HostRuntime,
     /// None if the tapes are gone with the library.
     pub keeper: Option<&'a FolderKeeper<'f>>,
     /// The file into which records are written, if they are.
     pub sink: Option<&'a RecordSink<'f>>,
     /// Where the library's status is asked for. None if nowhere.
     pub control: Option<&'a ControlSocket>,
+    /// Where its metrics are asked for. None if nowhere, and then records aren't counted.
+    pub metrics: Option<&'a MetricsSocket>,
     pub teller: &'a Teller<E>,
 }
 
@@ -145,9 +150,87 @@ fn serve_with_ledgers<
     told_of(earlier(served, earlier(left, closing_fault(closed))))
 }
 
+/// Serves sessions with a worker at each seat, while the keeper of the library's tapes, if it has one, keeps them, and its metrics and its
+/// status are told where they are asked for. Then the seats are back. The fault of a session, or of a library of which not all is kept.
+fn serve_kept<
+    B: Ledgers + Send + Sync,
+    R: Clock + PollSource + RandomSource + Threads + Wait + Sync,
+    E: Write + Send,
+    W: Write + Send,
+>(
+    means: &ServiceMeans<'_, '_, R, E>,
+    library: &Library<B, Device, Pass>,
+    seats: &mut Vec<Seat<B>>,
+    acceptor: &Acceptor<'_>,
+    batch: &mut Batch,
+    writer: &mut W,
+) -> Result<Option<ServerFault>, AllocError>
+    ensures lines { WritesOut means.now.records (W.contents writer.old) (W.contents writer.new) (left_in batch.old) (left_in batch.new) }
+    ensures served { OnOk result (SeatsCome library.now.units seats.old.items seats.new.items) }
+    ensures fault { IfOk result (λ fault. IfSome fault (MayTell acceptor.now.limits.term)) }
+{
+    match means.metrics {
+        Some(metrics) => serve_and_measure(means, metrics, library, seats, acceptor, batch, writer),
+        None => serve_shown(means, library, seats, acceptor, batch, writer),
+    }
+}
+
+/// The same with a metrics socket, at which a thread of its own sends the library's metrics.
+fn serve_and_measure<
+    B: Ledgers + Send + Sync,
+    R: Clock + PollSource + RandomSource + Threads + Wait + Sync,
+    E: Write + Send,
+    W: Write + Send,
+>(
+    means: &ServiceMeans<'_, '_, R, E>,
+    metrics: &MetricsSocket,
+    library: &Library<B, Device, Pass>,
+    seats: &mut Vec<Seat<B>>,
+    acceptor: &Acceptor<'_>,
+    batch: &mut Batch,
+    writer: &mut W,
+) -> Result<Option<ServerFault>, AllocError>
+    ensures lines { WritesOut means.now.records (W.contents writer.old) (W.contents writer.new) (left_in batch.old) (left_in batch.new) }
+    ensures served { OnOk result (SeatsCome library.now.units seats.old.items seats.new.items) }
+    ensures fault { IfOk result (λ fault. IfSome fault (MayTell acceptor.now.limits.term)) }
+{
+    let rt = means.rt;
+    let sessions = acceptor.limits.sessions;
+    let ((), served) = thread::join_mut(
+        rt,
+        &mut || metrics.answer_all(means, library, sessions),
+        &mut || serve_measured(means, metrics, library, seats, acceptor, batch, writer),
+    );
+    served
+}
+
+/// Serves sessions, and shuts the metrics socket down once the last has ended.
+fn serve_measured<
+    B: Ledgers + Send + Sync,
+    R: Clock + PollSource + RandomSource + Threads + Wait + Sync,
+    E: Write + Send,
+    W: Write + Send,
+>(
+    means: &ServiceMeans<'_, '_, R, E>,
+    metrics: &MetricsSocket,
+    library: &Library<B, Device, Pass>,
+    seats: &mut Vec<Seat<B>>,
+    acceptor: &Acceptor<'_>,
+    batch: &mut Batch,
+    writer: &mut W,
+) -> Result<Option<ServerFault>, AllocError>
+    ensures lines { WritesOut means.now.records (W.contents writer.old) (W.contents writer.new) (left_in batch.old) (left_in batch.new) }
+    ensures served { OnOk result (SeatsCome library.now.units seats.old.items seats.new.items) }
+    ensures fault { IfOk result (λ fault. IfSome fault (MayTell acceptor.now.limits.term)) }
+{
+    let served = serve_shown(means, library, seats, acceptor, batch, writer);
+    metrics.shut_down();
+    served
+}
+
 /// Serves sessions with a worker at each seat, while the keeper of the library's tapes, if it has one, keeps them, and its status is told
 /// where it is asked for. Then the seats are back. The fault of a session, or of a library of which not all is kept.
-fn serve_kept<
+fn serve_shown<
     B: Ledgers + Send + Sync,
     R: Clock + PollSource + RandomSource + Threads + Wait + Sync,
     E: Write + Send,
@@ -189,11 +272,11 @@ fn serve_and_show<
     ensures served { OnOk result (SeatsCome library.now.units seats.old.items seats.new.items) }
     ensures fault { IfOk result (λ fault. IfSome fault (MayTell acceptor.now.limits.term)) }
 {
-    let (rt, alloc, teller) = (means.rt, means.alloc, means.teller);
+    let rt = means.rt;
     let sessions = acceptor.limits.sessions;
     let ((), served) = thread::join_mut(
         rt,
-        &mut || control.answer_all(rt, alloc, library, sessions, teller),
+        &mut || control.answer_all(means, library, sessions),
         &mut || serve_and_shut(means, control, library, seats, acceptor, batch, writer),
     );
     served
@@ -318,8 +401,40 @@ fn serve_seats<
     Ok(served)
 }
 
-/// Serves sessions with a worker at each service, and writes meanwhile what is wanted of the records that units hand out.
+/// Serves sessions with a worker at each service, and counts the records that units hand out meanwhile, where metrics are asked for.
 fn serve_services<
+    S: SeatService + Send,
+    K: TapeKeeper + Sync,
+    D: RecordSource + Sync,
+    R: Clock + PollSource + RandomSource + Threads + Wait + Sync,
+    E: Write + Send,
+    W: Write + Send,
+>(
+    means: &ServiceMeans<'_, '_, R, E>,
+    services: &mut Vec<S>,
+    keeper: &K,
+    units: &D,
+    acceptor: &Acceptor<'_>,
+    batch: &mut Batch,
+    writer: &mut W,
+) -> Result<Option<FaultySession>, AllocError>
+    ensures lines { WritesOut means.now.records (W.contents writer.old) (W.contents writer.new) (left_in batch.old) (left_in batch.new) }
+    ensures served { OnOk result (AllZip (ComesBySessions S.notes S.settles S.count) services.old.items services.new.items) }
+{
+    match means.metrics {
+        Some(metrics) => {
+            let counted = CountedSource {
+                source: units,
+                counts: &metrics.counts,
+            };
+            serve_and_take(means, services, keeper, &counted, acceptor, batch, writer)
+        }
+        None => serve_and_take(means, services, keeper, units, acceptor, batch, writer),
+    }
+}
+
+/// Serves sessions with a worker at each service, and writes meanwhile what is wanted of the records that units hand out.
+fn serve_and_take<
     S: SeatService + Send,
     K: TapeKeeper + Sync,
     D: RecordSource + Sync,

@@ -9,6 +9,7 @@ ghost use Rattle.library_server.specs.Serving.{telling_of, term_of};
 
 use crate::control::ControlSocket;
 use crate::iscsi_target::{PortalTarget, target_of};
+use crate::metrics::{MetricsSocket, open_metrics};
 use crate::notice::{Notice, tell};
 use crate::places::{Places, open_places};
 use crate::recording::{RecordSink, sink_of};
@@ -28,7 +29,7 @@ use server::{
 use std::alloc::{AllocError, Global};
 use std::fs::Files;
 use std::io::{self, Read, Write};
-use std::net::{Net, TcpListener, TcpStream};
+use std::net::{Net, SocketAddr, TcpListener, TcpStream};
 use std::random::RandomSource;
 use std::sync::Wait;
 use std::thread::{self, Threads};
@@ -69,6 +70,7 @@ pub fn serve<
     let ServeOptions {
         socket,
         control,
+        metrics,
         iscsi,
         media,
         memory,
@@ -89,6 +91,7 @@ pub fn serve<
         } else {
             RecordOutput::new(drain, audit)
         },
+        files,
         sink: sink.as_ref(),
         telling: telling_of(log),
     };
@@ -102,6 +105,7 @@ pub fn serve<
             let places = ServedAt {
                 socket,
                 control,
+                metrics,
                 made: &made,
             };
             serve_at(rt, core, Some(&keeper), places, service, errors)
@@ -112,6 +116,7 @@ pub fn serve<
             let places = ServedAt {
                 socket,
                 control,
+                metrics,
                 made: &made,
             };
             serve_at(rt, core, None, places, service, errors)
@@ -135,6 +140,8 @@ struct ServiceOptions<'a, 'f> {
     /// On which initiators of iSCSI are let in, where they may come.
     terms: Option<LoginTerms>,
     records: RecordOutput,
+    /// By which the system is asked how much memory the server has.
+    files: &'f HostRuntime,
     /// The file into which records are written, if they are.
     sink: Option<&'a RecordSink<'f>>,
     telling: Telling,
@@ -147,6 +154,8 @@ struct ServedAt<'a> {
     socket: Option<String>,
     /// The same of the control socket.
     control: Option<String>,
+    /// Where its metrics are asked for, if somewhere.
+    metrics: Option<SocketAddr>,
     made: &'a PortalTarget,
 }
 
@@ -191,8 +200,10 @@ fn serve_at<
     let ServedAt {
         socket,
         control,
+        metrics,
         made,
     } = at;
+    let metrics = open_metrics(rt, metrics)?;
     let control = open_control(rt, control, errors)?;
     let opened = open_places(rt, &made.portals, &made.target, socket, errors);
     let places = match opened {
@@ -213,6 +224,7 @@ fn serve_at<
             let kept = KeptAt {
                 keeper,
                 control: asked,
+                metrics: metrics.as_ref(),
                 places: &places,
             };
             serve_until(rt, core, kept, service, &teller).map_err(SocketFault::from)
@@ -249,6 +261,7 @@ fn leave_control<R: Files>(rt: &R, control: &Option<(SocketFile, ControlSocket)>
 struct KeptAt<'a, 'f, 'd> {
     keeper: Option<&'a FolderKeeper<'f>>,
     control: Option<&'a ControlSocket>,
+    metrics: Option<&'a MetricsSocket>,
     places: &'a Places<'d>,
 }
 
@@ -309,6 +322,7 @@ fn serve_until<
     let KeptAt {
         keeper,
         control,
+        metrics,
         places,
     } = kept;
     let ServiceOptions {
@@ -316,6 +330,7 @@ fn serve_until<
         times,
         terms,
         records,
+        files,
         sink,
         telling: _,
     } = service;
@@ -332,9 +347,11 @@ fn serve_until<
                 rt,
                 alloc: rt.alloc(),
                 records,
+                files,
                 keeper,
                 sink,
                 control,
+                metrics,
                 teller,
             };
             serve_library(&means, core, &places.doors, limits, &mut writer)

@@ -14,6 +14,7 @@ use Rattle.library_status.specs.Words.{key_after, nexus_after, number_after, tag
 use Rattle.library_status.specs.declared.word.Word.TheVariants as word
 use Rattle.library_status.specs.declared.summary.ElementSummary.{ElementSummary}
 use Rattle.library_status.specs.declared.summary.LibrarySummary.{LibrarySummary}
+use Rattle.library_status.specs.declared.summary.ServerSummary.{ServerSummary}
 use Rattle.library_status.specs.declared.summary.SessionSummary.{SessionSummary}
 use Rattle.library_status.specs.Sessions.{session_json}
 use Rattle.library_status.specs.declared.summary.UnitContents.{UnitContents}
@@ -33,10 +34,13 @@ abbrev pub listed : {X : Type 0} → (X → List ℕ) → List X → List ℕ
 listed text [] = []
 listed text (x ∷ xs) = text x ++ flat_map (after_comma text) xs
 
+abbrev pub named_json : VolumeTag → List ℕ
+named_json tag = tag_after word.Quote tag ++ word_text word.Quote
+
 -- the tag in a place, if there is one
 abbrev pub tag_json : Option VolumeTag → List ℕ
 tag_json None = word_text word.Null
-tag_json (Some tag) = tag_after word.Quote tag ++ word_text word.Quote
+tag_json (Some tag) = named_json tag
 
 -- RESERVATIONS
 
@@ -133,8 +137,25 @@ unfoldable pub units_json : List UnitSummary → List ℕ
 units_json us = word_text word.Units ++ listed unit_json us
 
 unfoldable pub sessions_json : List SessionSummary → List ℕ
-sessions_json ss = word_text word.Sessions ++ listed session_json ss ++ word_text word.EndOfUnits
+sessions_json ss = word_text word.Sessions ++ listed session_json ss ++ word_text word.EndOfList
+
+-- THE SERVER
+
+abbrev pub memory_json : Option ℕ → List ℕ
+memory_json None = word_text word.Memory ++ word_text word.Null
+memory_json (Some bytes) = number_after word.Memory bytes
+
+-- what can't be written
+unfoldable pub failing_json : ServerSummary → List ℕ
+failing_json s =
+    word_text word.Failing ++ listed named_json s.failing.items
+    ++ words_after word.FailingInventory (truth s.is_inventory_failing)
+
+unfoldable pub server_json : ServerSummary → List ℕ
+server_json s = memory_json s.memory ++ failing_json s ++ word_text word.EndOfStatus
 
 -- the line, without its end
-unfoldable pub library_json : LibrarySummary → List SessionSummary → List ℕ
-library_json l sessions = words_after word.Version (profile_text l.profile) ++ units_json l.units.items ++ sessions_json sessions
+unfoldable pub library_json : LibrarySummary → List SessionSummary → ServerSummary → List ℕ
+library_json l sessions server =
+    words_after word.Version (profile_text l.profile) ++ units_json l.units.items ++ sessions_json sessions
+    ++ server_json server

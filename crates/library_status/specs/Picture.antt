@@ -1,8 +1,9 @@
 -- The summary of a library as a picture: lines of graphic ASCII for a terminal of 80 columns (profile). Each but the first begins with the end of the one before.
-use Rattle.std.specs.Prelude.{ℕ, ◌-◌, ◌%◌, ◌^◌, ◌==◌, ◌&&◌, nat_le, nat_lt, Bool, true, false, List, [], ◌∷◌, ◌++◌, length, replicate, take, Option, None, Some, String, string_bytes, if◌then◌else◌}
+use Rattle.std.specs.Prelude.{ℕ, ◌-◌, ◌*◌, ◌/◌, ◌%◌, ◌^◌, ◌==◌, ◌&&◌, nat_le, nat_lt, Bool, true, false, List, [], ◌∷◌, ◌++◌, length, replicate, take, Option, None, Some, String, string_bytes, if◌then◌else◌}
 use Rattle.std.specs.Fmt.{decimal, format_spec, padded_integral}
 use Rattle.std.specs.Global.{Global}
 use Rattle.std.specs.List.{flat_map}
+use Rattle.scsi_cdb.specs.declared.profile.Profile.{Profile}
 use Rattle.scsi_nexus.specs.declared.nexus.Nexus.{Nexus}
 use Rattle.permit_tables.specs.declared.res_type.ResType.{ResType}
 use Rattle.permit_tables.specs.Types.{is_all_registrants}
@@ -14,6 +15,7 @@ use Rattle.library_status.specs.Json.{element_type_text, kind_text, profile_text
 use Rattle.library_status.specs.declared.word.Word.TheVariants as word
 use Rattle.library_status.specs.declared.summary.ElementSummary.{ElementSummary}
 use Rattle.library_status.specs.declared.summary.LibrarySummary.{LibrarySummary}
+use Rattle.library_status.specs.declared.summary.ServerSummary.{ServerSummary}
 use Rattle.library_status.specs.declared.summary.SessionSummary.{SessionSummary}
 use Rattle.library_status.specs.Sessions.{from_picture, nexus_picture, since_picture, traffic_picture}
 use Rattle.library_status.specs.declared.summary.UnitContents.{UnitContents}
@@ -133,9 +135,37 @@ whose_picture s = number_after word.SessionTitle s.number ++ nexus_picture s.nex
 unfoldable pub session_picture : SessionSummary → List ℕ
 session_picture s = whose_picture s ++ origin_picture s ++ traffic_picture s
 
-unfoldable pub units_picture : LibrarySummary → List ℕ
-units_picture l = words_after word.Profile (profile_text l.profile) ++ flat_map unit_picture l.units.items
+-- THE SERVER
+
+-- a size in tenths of MiB, rounded down
+unfoldable pub size_in_memory : ℕ → List ℕ
+size_in_memory bytes =
+    let tenths = bytes / 1024 * 10 / 1024 in
+    number_after word.MemoryLine (tenths / 10) ++ number_after word.Point (tenths % 10) ++ word_text word.Mebibytes
+
+abbrev pub memory_line : Option ℕ → List ℕ
+memory_line None = []
+memory_line (Some bytes) = size_in_memory bytes
+
+-- a volume whose image can't be written
+unfoldable pub failing_line : VolumeTag → List ℕ
+failing_line tag = word_text word.FailingLine ++ glyphs (trimmed tag.0 (length tag.0))
+
+abbrev pub inventory_line : Bool → List ℕ
+inventory_line true = word_text word.FailingInventoryLine
+inventory_line false = []
+
+unfoldable pub server_picture : ServerSummary → List ℕ
+server_picture s = memory_line s.memory ++ flat_map failing_line s.failing.items ++ inventory_line s.is_inventory_failing
+
+-- THE LIBRARY
+
+unfoldable pub head : Profile → ServerSummary → List ℕ
+head profile server = words_after word.Profile (profile_text profile) ++ server_picture server
+
+unfoldable pub units_picture : LibrarySummary → ServerSummary → List ℕ
+units_picture l server = head l.profile server ++ flat_map unit_picture l.units.items
 
 -- the picture, with the end of its last line
-unfoldable pub picture : LibrarySummary → List SessionSummary → List ℕ
-picture l sessions = units_picture l ++ flat_map session_picture sessions ++ word_text word.EndOfLine
+unfoldable pub picture : LibrarySummary → List SessionSummary → ServerSummary → List ℕ
+picture l sessions server = units_picture l server ++ flat_map session_picture sessions ++ word_text word.EndOfLine

@@ -1,11 +1,11 @@
--- Worked rows: what is told of a volume, an element, a reservation, a registration and a session.
+-- Worked rows: what is told of a volume, an element, a reservation, a registration, a session and a server.
 use Rattle.std.specs.Prelude.{◌≡◌, ℕ, true, false, List, [], ◌∷◌, ◌++◌, replicate, codes, Option, Some, None}
 use Rattle.scsi_nexus.specs.declared.nexus.Nexus.{Nexus}
 use Rattle.permit_tables.specs.declared.res_type.ResType.TheVariants.{Ea, Eaar}
 use Rattle.tape_medium.specs.declared.volume.VolumeTag.{VolumeTag}
 use Rattle.element_map.specs.declared.element_type.ElementType.TheVariants.{DataTransfer, Storage}
-use Rattle.library_status.specs.Json.{element_json, registration_json, reservation_json, volume_json}
-use Rattle.library_status.specs.Picture.{element_picture, in_columns}
+use Rattle.library_status.specs.Json.{element_json, listed, memory_json, named_json, registration_json, reservation_json, volume_json}
+use Rattle.library_status.specs.Picture.{element_picture, failing_line, in_columns, size_in_memory}
 use Rattle.library_status.specs.Sessions.{session_json}
 use Rattle.library_status.specs.declared.summary.ElementSummary.{ElementSummary}
 use Rattle.library_status.specs.declared.summary.SessionSummary.{SessionSummary}
@@ -41,7 +41,13 @@ pub record StatusRows : Type 0 where
   pub registration : registration_json (a, 0xAB) ≡ codes "{\"nexus\":\"500000000000000a.1\",\"key\":\"00000000000000ab\"}"
   pub session : session_json one_session
       ≡ codes "{\"number\":7,\"nexus\":null,\"name\":null,\"address\":null,\"start\":null,\"commands\":2,\"received\":96,\"sent\":1100}"
+  pub memory : memory_json (Some 12906496) ≡ codes ",\"memory\":12906496"
+  pub no_memory : memory_json None ≡ codes ",\"memory\":null"
+  pub failing : listed named_json (one_volume.tag ∷ tag (65 ∷ 34 ∷ []) 30 ∷ []) ≡ codes "\"VOL00001\",\"A\\u0022\""
   pub first_of_a_row : element_picture empty_element ≡ codes "\n  data transfer\n   256        -"
   pub within_a_row : element_picture full_element ≡ codes "       A\""
   pub short_tag : in_columns (codes "A1") ≡ codes "      A1"
   pub long_tag : in_columns (codes "ARCHIVE_1") ≡ codes "ARCHIVE~"
+  pub size : size_in_memory 12906496 ≡ codes "\n  memory 12.3 MiB"
+  pub size_of_a_page : size_in_memory 4096 ≡ codes "\n  memory 0.0 MiB"
+  pub not_written : failing_line one_volume.tag ≡ codes "\n  failing: VOL00001"

@@ -1,11 +1,12 @@
 //! The summary of a library as a line of JSON (RFC 8259).
 
 ghost use Rattle.std.specs.Prelude.{◌≡◌, ◌++◌, OnOk, Some, string_bytes};
-ghost use Rattle.library_status.specs.Json.{address_json, cartridge_json, contents_json, element_json, element_type_text, held_by_json, held_json, holder_json, holds_json, in_drive_json, kind_text, library_json, listed, numbers_json, objects_json, place_json, profile_text, records_json, registration_json, registrations_json, reservation_json, reserved_json, sessions_json, state_json, tag_json, tape_json, truth, unit_json, units_json, volume_json};
+ghost use Rattle.library_status.specs.Json.{address_json, cartridge_json, contents_json, element_json, element_type_text, failing_json, held_by_json, held_json, holder_json, holds_json, in_drive_json, kind_text, library_json, listed, memory_json, named_json, numbers_json, objects_json, place_json, profile_text, records_json, registration_json, registrations_json, reservation_json, reserved_json, server_json, sessions_json, state_json, tag_json, tape_json, truth, unit_json, units_json, volume_json};
 
 use crate::sessions::write_session;
 use crate::summary::{
-    ElementSummary, LibrarySummary, SessionSummary, UnitContents, UnitSummary, VolumeSummary,
+    ElementSummary, LibrarySummary, ServerSummary, SessionSummary, UnitContents, UnitSummary,
+    VolumeSummary,
 };
 use crate::word::Word;
 use crate::words::{write_key, write_nexus, write_number, write_tag, write_word, write_words};
@@ -16,18 +17,20 @@ use scsi_nexus::Nexus;
 use std::alloc::AllocError;
 use tape_medium::VolumeTag;
 
-/// Adds the summary of a library in JSON, without the end of the line.
+/// Adds the summary of a library, of its sessions and of its server in JSON, without the end of the line.
 #[tactic(auto, unfolding(crate::specs::Json::library_json))]
 pub(crate) fn write_library(
     text: &mut String,
     library: &LibrarySummary,
     sessions: &[SessionSummary],
+    server: &ServerSummary,
 ) -> Result<(), AllocError>
-    ensures { OnOk result (string_bytes text.new ≡ string_bytes text.old ++ library_json library.now sessions.now) }
+    ensures { OnOk result (string_bytes text.new ≡ string_bytes text.old ++ library_json library.now sessions.now server.now) }
 {
     write_words(text, Word::Version, profile_text(library.profile))?;
     write_units(text, &library.units)?;
-    write_sessions(text, sessions)
+    write_sessions(text, sessions)?;
+    write_server(text, server)
 }
 
 #[tactic(auto, unfolding(crate::specs::Json::units_json))]
@@ -44,7 +47,43 @@ fn write_sessions(text: &mut String, sessions: &[SessionSummary]) -> Result<(), 
 {
     write_word(text, Word::Sessions)?;
     write_list(text, sessions)?;
-    write_word(text, Word::EndOfUnits)
+    write_word(text, Word::EndOfList)
+}
+
+/// Adds what is told of a server, and ends the line.
+#[tactic(auto, unfolding(crate::specs::Json::server_json))]
+fn write_server(text: &mut String, server: &ServerSummary) -> Result<(), AllocError>
+    ensures { OnOk result (string_bytes text.new ≡ string_bytes text.old ++ server_json server.now) }
+{
+    write_memory(text, server.memory)?;
+    write_failing(text, server)?;
+    write_word(text, Word::EndOfStatus)
+}
+
+fn write_memory(text: &mut String, memory: Option<u64>) -> Result<(), AllocError>
+    ensures { OnOk result (string_bytes text.new ≡ string_bytes text.old ++ memory_json memory) }
+{
+    match memory {
+        None => {
+            write_word(text, Word::Memory)?;
+            write_word(text, Word::Null)
+        }
+        Some(bytes) => write_number(text, Word::Memory, bytes),
+    }
+}
+
+/// Adds what can't be written.
+#[tactic(auto, unfolding(crate::specs::Json::failing_json))]
+fn write_failing(text: &mut String, server: &ServerSummary) -> Result<(), AllocError>
+    ensures { OnOk result (string_bytes text.new ≡ string_bytes text.old ++ failing_json server.now) }
+{
+    write_word(text, Word::Failing)?;
+    write_list(text, &server.failing)?;
+    write_words(
+        text,
+        Word::FailingInventory,
+        truth(server.is_inventory_failing),
+    )
 }
 
 pub(crate) fn profile_text(profile: Profile) -> &'static str
@@ -94,6 +133,14 @@ impl Listed for SessionSummary {
 
     fn write_json(&self, text: &mut String) -> Result<(), AllocError> {
         write_session(text, self)
+    }
+}
+
+impl Listed for VolumeTag {
+    ghost json = { named_json };
+
+    fn write_json(&self, text: &mut String) -> Result<(), AllocError> {
+        write_named(text, self)
     }
 }
 
@@ -324,9 +371,13 @@ fn write_held_tag(text: &mut String, tag: &Option<VolumeTag>) -> Result<(), Allo
 {
     match tag {
         None => write_word(text, Word::Null),
-        Some(tag) => {
-            write_tag(text, Word::Quote, tag)?;
-            write_word(text, Word::Quote)
-        }
+        Some(tag) => write_named(text, tag),
     }
+}
+
+fn write_named(text: &mut String, tag: &VolumeTag) -> Result<(), AllocError>
+    ensures { OnOk result (string_bytes text.new ≡ string_bytes text.old ++ named_json tag.now) }
+{
+    write_tag(text, Word::Quote, tag)?;
+    write_word(text, Word::Quote)
 }

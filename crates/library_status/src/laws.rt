@@ -2,7 +2,7 @@
 
 ghost use Rattle.library_status.specs.Rows.{StatusRows};
 
-/// What is told of a volume, an element, a reservation, a registration and a session, in JSON and in the picture.
+/// What is told of a volume, an element, a reservation, a registration, a session and a server, in JSON and in the picture.
 pub fn worked_rows()
     ensures rows { StatusRows }
 {}

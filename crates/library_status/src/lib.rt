@@ -13,6 +13,8 @@ mod words;
 
 pub use laws::worked_rows;
 pub use summary::{
-    ElementSummary, LibrarySummary, SessionSummary, UnitContents, UnitSummary, VolumeSummary,
+    ElementSummary, LibrarySummary, ServerSummary, SessionSummary, UnitContents, UnitSummary,
+    VolumeSummary,
 };
 pub use text::status_text;
+pub use words::without_spaces;

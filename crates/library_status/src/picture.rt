@@ -2,38 +2,112 @@
 
 ghost use Rattle.std.specs.Prelude.{◌≡◌, ◌++◌, OnOk, length, string_bytes};
 ghost use Rattle.std.specs.List.{flat_map};
-ghost use Rattle.library_status.specs.Picture.{cartridge_picture, contents_picture, counts, held_by, holding, picture, position_picture, prevention, protection, reservation_picture, session_picture, standing, tape_picture, title, unit_picture, units_picture, volume_picture};
+ghost use Rattle.library_status.specs.Picture.{cartridge_picture, contents_picture, counts, failing_line, head, held_by, holding, inventory_line, memory_line, picture, position_picture, prevention, protection, reservation_picture, server_picture, session_picture, size_in_memory, standing, tape_picture, title, unit_picture, units_picture, volume_picture};
 
 use crate::json::{kind_text, profile_text};
-use crate::rows::{write_elements, write_named};
+use crate::rows::{write_elements, write_glyphs, write_named};
 use crate::sessions::draw_session;
-use crate::summary::{LibrarySummary, SessionSummary, UnitContents, UnitSummary, VolumeSummary};
+use crate::summary::{
+    LibrarySummary, ServerSummary, SessionSummary, UnitContents, UnitSummary, VolumeSummary,
+};
 use crate::word::Word;
-use crate::words::{write_nexus, write_number, write_word, write_words};
+use crate::words::{without_spaces, write_nexus, write_number, write_word, write_words};
 use permit_tables::ResType;
+use scsi_cdb::Profile;
 use scsi_nexus::Nexus;
 use std::alloc::AllocError;
+use tape_medium::VolumeTag;
 
-/// Adds the picture of a library, and of sessions that go on.
+/// Adds the picture of a library, of its server, and of sessions that go on.
 #[tactic(auto, unfolding(crate::specs::Picture::picture))]
 pub(crate) fn write_picture(
     text: &mut String,
     library: &LibrarySummary,
     sessions: &[SessionSummary],
+    server: &ServerSummary,
 ) -> Result<(), AllocError>
-    ensures { OnOk result (string_bytes text.new ≡ string_bytes text.old ++ picture library.now sessions.now) }
+    ensures { OnOk result (string_bytes text.new ≡ string_bytes text.old ++ picture library.now sessions.now server.now) }
 {
-    write_all_units(text, library)?;
+    write_all_units(text, library, server)?;
     write_sessions(text, sessions)?;
     write_word(text, Word::EndOfLine)
 }
 
 #[tactic(auto, unfolding(crate::specs::Picture::units_picture))]
-fn write_all_units(text: &mut String, library: &LibrarySummary) -> Result<(), AllocError>
-    ensures { OnOk result (string_bytes text.new ≡ string_bytes text.old ++ units_picture library.now) }
+fn write_all_units(
+    text: &mut String,
+    library: &LibrarySummary,
+    server: &ServerSummary,
+) -> Result<(), AllocError>
+    ensures { OnOk result (string_bytes text.new ≡ string_bytes text.old ++ units_picture library.now server.now) }
 {
-    write_words(text, Word::Profile, profile_text(library.profile))?;
+    write_head(text, library.profile, server)?;
     write_units(text, &library.units)
+}
+
+#[tactic(auto, unfolding(crate::specs::Picture::head))]
+fn write_head(text: &mut String, profile: Profile, server: &ServerSummary) -> Result<(), AllocError>
+    ensures { OnOk result (string_bytes text.new ≡ string_bytes text.old ++ head profile server.now) }
+{
+    write_words(text, Word::Profile, profile_text(profile))?;
+    write_server(text, server)
+}
+
+#[tactic(auto, unfolding(crate::specs::Picture::server_picture))]
+fn write_server(text: &mut String, server: &ServerSummary) -> Result<(), AllocError>
+    ensures { OnOk result (string_bytes text.new ≡ string_bytes text.old ++ server_picture server.now) }
+{
+    write_memory(text, server.memory)?;
+    write_failing(text, &server.failing)?;
+    write_inventory(text, server.is_inventory_failing)
+}
+
+fn write_memory(text: &mut String, memory: Option<u64>) -> Result<(), AllocError>
+    ensures { OnOk result (string_bytes text.new ≡ string_bytes text.old ++ memory_line memory) }
+{
+    match memory {
+        None => Ok(()),
+        Some(bytes) => write_size(text, bytes),
+    }
+}
+
+/// Adds a size in tenths of MiB, rounded down.
+#[tactic(auto, unfolding(crate::specs::Picture::size_in_memory))]
+fn write_size(text: &mut String, bytes: u64) -> Result<(), AllocError>
+    ensures { OnOk result (string_bytes text.new ≡ string_bytes text.old ++ size_in_memory bytes) }
+{
+    let tenths = bytes / 1024 * 10 / 1024;
+    write_number(text, Word::MemoryLine, tenths / 10)?;
+    write_number(text, Word::Point, tenths % 10)?;
+    write_word(text, Word::Mebibytes)
+}
+
+/// Adds a line for each volume whose image can't be written.
+fn write_failing(text: &mut String, tags: &[VolumeTag]) -> Result<(), AllocError>
+    ensures { OnOk result (string_bytes text.new ≡ string_bytes text.old ++ flat_map failing_line tags.now) }
+{
+    for tag in tags {
+        write_failing_tag(text, tag)?;
+    }
+    Ok(())
+}
+
+#[tactic(auto, unfolding(crate::specs::Picture::failing_line))]
+fn write_failing_tag(text: &mut String, tag: &VolumeTag) -> Result<(), AllocError>
+    ensures { OnOk result (string_bytes text.new ≡ string_bytes text.old ++ failing_line tag.now) }
+{
+    write_word(text, Word::FailingLine)?;
+    write_glyphs(text, without_spaces(&tag.0))
+}
+
+fn write_inventory(text: &mut String, is_failing: bool) -> Result<(), AllocError>
+    ensures { OnOk result (string_bytes text.new ≡ string_bytes text.old ++ inventory_line is_failing) }
+{
+    if is_failing {
+        write_word(text, Word::FailingInventoryLine)
+    } else {
+        Ok(())
+    }
 }
 
 fn write_sessions(text: &mut String, sessions: &[SessionSummary]) -> Result<(), AllocError>

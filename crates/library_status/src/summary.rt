@@ -13,6 +13,17 @@ pub struct LibrarySummary {
     pub units: Vec<UnitSummary>,
 }
 
+/// The server of a library.
+#[derive(Drop)]
+pub struct ServerSummary {
+    /// How many bytes of memory it has, where the system says that.
+    pub memory: Option<u64>,
+    /// The tags of the volumes whose images can't be written.
+    pub failing: Vec<VolumeTag>,
+    /// Whether the inventory can't be written, which says where the volumes are.
+    pub is_inventory_failing: bool,
+}
+
 /// A session that goes on, at one moment.
 #[derive(Drop)]
 pub struct SessionSummary {

@@ -6,7 +6,6 @@ ghost use Rattle.library_status.specs.Words.{word_text};
 pub(crate) enum Word {
     Version,
     Units,
-    EndOfUnits,
     Lun,
     Kind,
     Used,
@@ -68,6 +67,10 @@ pub(crate) enum Word {
     Commands,
     Received,
     Sent,
+    Memory,
+    Failing,
+    FailingInventory,
+    EndOfStatus,
     SessionTitle,
     NotIn,
     From,
@@ -76,6 +79,11 @@ pub(crate) enum Word {
     CommandsLine,
     ReceivedLine,
     SentLine,
+    MemoryLine,
+    Point,
+    Mebibytes,
+    FailingLine,
+    FailingInventoryLine,
 }
 
 impl Word {
@@ -87,7 +95,6 @@ impl Word {
         match self {
             Word::Version => "{\"version\":1,\"profile\":\"",
             Word::Units => "\",\"units\":[",
-            Word::EndOfUnits => "]}",
             Word::Lun => "{\"lun\":",
             Word::Kind => ",\"kind\":\"",
             Word::Used => "\",\"slots\":{\"used\":",
@@ -149,6 +156,10 @@ impl Word {
             Word::Commands => ",\"commands\":",
             Word::Received => ",\"received\":",
             Word::Sent => ",\"sent\":",
+            Word::Memory => ",\"memory\":",
+            Word::Failing => ",\"failing\":{\"volumes\":[",
+            Word::FailingInventory => "],\"inventory\":",
+            Word::EndOfStatus => "}}",
             Word::SessionTitle => "\n\nSession ",
             Word::NotIn => ", not logged in",
             Word::From => "\n  from ",
@@ -157,6 +168,11 @@ impl Word {
             Word::CommandsLine => "\n  commands ",
             Word::ReceivedLine => "\n  bytes received ",
             Word::SentLine => ", sent ",
+            Word::MemoryLine => "\n  memory ",
+            Word::Point => ".",
+            Word::Mebibytes => " MiB",
+            Word::FailingLine => "\n  failing: ",
+            Word::FailingInventoryLine => "\n  failing: library.toml",
         }
     }
 }

@@ -63,7 +63,7 @@ pub(crate) fn write_tag(text: &mut String, before: Word, tag: &VolumeTag) -> Res
 }
 
 /// The bytes before the spaces at their end.
-pub(crate) fn without_spaces(bytes: &[u8]) -> &[u8]
+pub fn without_spaces(bytes: &[u8]) -> &[u8]
     ensures { result.now ≡ trimmed bytes.now (length bytes.now) }
 {
     let mut end = bytes.len();

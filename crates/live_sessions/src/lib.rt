@@ -9,6 +9,7 @@ mod login_terms;
 mod no_room;
 mod reset_counts;
 mod session_counts;
+mod session_totals;
 #[cfg(test)]
 mod tests;
 
@@ -20,3 +21,4 @@ pub use login_terms::{LoginTerms, Paths, SPARE_WORKERS};
 pub use no_room::NoRoom;
 pub use reset_counts::ResetCounts;
 pub use session_counts::SessionCounts;
+pub use session_totals::SessionTotals;

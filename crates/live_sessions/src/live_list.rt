@@ -5,6 +5,7 @@ use crate::live_session::{
 };
 use crate::login_terms::{LoginTerms, MOST_BEFORE_LOGIN, MOST_OF_NEXUS, Paths};
 use crate::no_room::NoRoom;
+use crate::session_totals::SessionTotals;
 use arrayvec::ArrayVec;
 use iscsi_login::Admission;
 use iscsi_session::{Entrant, Joined, NexusEnd, SessionIdentity};
@@ -80,6 +81,8 @@ impl Beside {
 pub(crate) struct LiveList {
     pub is_closed: bool,
     sessions: Slab<LiveSession>,
+    /// What came and went in those that have ended.
+    ended: SessionTotals,
     /// The nexuses of hosts that aren't named which were let in: no more than a logical unit has slots.
     strangers: ArrayVec<Nexus, SLOTS>,
     /// Whether it was told that one more wasn't.
@@ -94,6 +97,7 @@ impl LiveList {
         LiveList {
             is_closed: false,
             sessions: Slab::new(alloc),
+            ended: SessionTotals::default(),
             strangers: ArrayVec::new(),
             has_told_stranger: false,
             last_tsih: 0,
@@ -134,9 +138,21 @@ impl LiveList {
         Ok(reports)
     }
 
-    /// Forgets a session that has ended.
+    /// What came and went in all sessions.
+    pub fn totals(&self) -> SessionTotals {
+        let mut totals = self.ended;
+        totals.sessions = self.sessions.len();
+        for (_, live) in self.sessions.iter() {
+            totals.add(live.counts());
+        }
+        totals
+    }
+
+    /// Forgets a session that has ended, but for what came and went in it.
     pub fn forget(&mut self, key: usize) {
-        let _ = self.sessions.try_remove(key);
+        if let Some(live) = self.sessions.try_remove(key) {
+            self.ended.add(live.counts());
+        }
     }
 
     pub fn session_mut(&mut self, key: usize) -> Option<&mut LiveSession> {

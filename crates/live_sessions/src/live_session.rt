@@ -166,6 +166,11 @@ impl LiveSession {
         }
     }
 
+    /// What its own thread counts.
+    pub fn counts(&self) -> &SessionCounts {
+        &self.counts
+    }
+
     /// Why its initiator wasn't let in, where its login was as it should be.
     pub fn no_room(&self) -> Option<NoRoom> {
         self.no_room

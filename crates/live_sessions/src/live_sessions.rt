@@ -5,6 +5,7 @@ use crate::login_terms::{LoginTerms, SPARE_WORKERS};
 use crate::no_room::NoRoom;
 use crate::reset_counts::ResetCounts;
 use crate::session_counts::SessionCounts;
+use crate::session_totals::SessionTotals;
 use iscsi_pdu::LoginStatus;
 use iscsi_session::{Entrant, Joined, NexusEnd, SessionIdentity};
 use scsi_nexus::Nexus;
@@ -121,7 +122,12 @@ impl LiveSessions {
         self.live.lock(rt).reports(alloc)
     }
 
-    /// Forgets a session that has ended, by its key.
+    /// What came and went in all sessions.
+    pub fn totals<R: Wait>(&self, rt: &R) -> SessionTotals {
+        self.live.lock(rt).totals()
+    }
+
+    /// Forgets a session that has ended, by its key. Its own thread counts nothing in it any more.
     pub fn forget<R: Wait>(&self, rt: &R, key: usize) {
         let mut live = self.live.lock(rt);
         live.forget(key);

@@ -1,7 +1,7 @@
 -- What is said of each fault, and the exit status of a program that ends by it (profile).
 use Rattle.std.specs.Prelude.{ℕ, List, codes}
 use Rattle.program_options.specs.declared.option_fault.OptionFault.{OptionFault}
-use Rattle.program_options.specs.declared.option_fault.OptionFault.TheVariants.{MoreVolumes, BadVolumeSize, BadMemorySize, BadNexus, NoPlace, ManyPortals, BadAddress, OpenAddress, BadToldAddress, NobodyLetIn, BadHost, BadSas, BadName, ManyHosts, NameTwice, SasTwice, NoSlotForOthers, BadDigests, BadFormat, BadProfile, BadLibraryNumber, NumberWithoutHosts}
+use Rattle.program_options.specs.declared.option_fault.OptionFault.TheVariants.{MoreVolumes, BadVolumeSize, BadMemorySize, BadNexus, NoPlace, ManyPortals, BadAddress, OpenAddress, BadToldAddress, NobodyLetIn, BadHost, BadSas, BadName, ManyHosts, NameTwice, SasTwice, NoSlotForOthers, BadDigests, BadFormat, BadProfile, BadLibraryNumber, NumberWithoutHosts, OpenMetrics, UncountedRecords}
 
 abbrev pub option_fault_text : OptionFault → List ℕ
 option_fault_text MoreVolumes = codes "vtl: more volumes than slots"
@@ -26,6 +26,8 @@ option_fault_text BadFormat = codes "vtl: not a format of records: give json or 
 option_fault_text BadProfile = codes "vtl: not a profile: give spec or hosts"
 option_fault_text BadLibraryNumber = codes "vtl: not the number of a library: give its 8 hexadecimal digits, such as 1A2B3C4D"
 option_fault_text NumberWithoutHosts = codes "vtl: --library-id needs --profile hosts: no other library has a number"
+option_fault_text OpenMetrics = codes "vtl: other machines can reach this address: give --metrics-open if all of them may read what is counted"
+option_fault_text UncountedRecords = codes "vtl: --metrics needs --records or --drain: records are counted as they are written"
 
 abbrev pub option_status : OptionFault → ℕ
 option_status fault = 2

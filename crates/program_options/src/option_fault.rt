@@ -48,6 +48,10 @@ pub enum OptionFault {
     BadLibraryNumber,
     /// A number for a library that isn't of the hosts' profile.
     NumberWithoutHosts,
+    /// Metrics that other machines can read, where the command line doesn't say that they may.
+    OpenMetrics,
+    /// Metrics of a library whose records aren't taken while it is served.
+    UncountedRecords,
 }
 
 impl OptionFault {
@@ -111,6 +115,12 @@ impl OptionFault {
             }
             OptionFault::NumberWithoutHosts => {
                 "vtl: --library-id needs --profile hosts: no other library has a number"
+            }
+            OptionFault::OpenMetrics => {
+                "vtl: other machines can reach this address: give --metrics-open if all of them may read what is counted"
+            }
+            OptionFault::UncountedRecords => {
+                "vtl: --metrics needs --records or --drain: records are counted as they are written"
             }
         }
     }

@@ -1,3 +1,6 @@
+pub mod CountRows
+pub mod Counts
+pub mod CountsSeen
 pub mod Lines
 pub mod Names
 pub mod Plain

@@ -2,8 +2,10 @@
 //! name and the reservation before it.
 #![tactic(auto)]
 
+mod counts;
 mod field;
 mod host_name;
+mod kind;
 mod laws;
 mod line;
 mod lines;
@@ -12,8 +14,10 @@ mod standing;
 mod times;
 mod words;
 
+pub use counts::{RecordCount, RecordCounts};
 pub use host_name::HostName;
-pub use laws::{follows_trails, worked_rows};
+pub use kind::{Asked, RecordKind};
+pub use laws::{counts_add_up, follows_trails, worked_rows};
 pub use line::{TakenRecord, write_line};
 pub use lines::{LineContext, records_text};
 pub use names::name_of;

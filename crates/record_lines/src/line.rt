@@ -7,7 +7,8 @@ ghost use Rattle.permit_tables.specs.Text.{cell_text};
 ghost use Rattle.record_lines.specs.Lines.{answered_text, asked_text, held_in, judged_text, line_of, rule_name, taken_text, value};
 
 use crate::field::{Field, absent, line_end, mark};
-use crate::words::{act_text, rule_name, status_text};
+use crate::kind::Asked;
+use crate::words::{rule_name, status_text};
 use audit_log::{Record, write_reservation};
 use itoa::Buffer;
 use permit_tables::{Cell, KeyRule, ResType};
@@ -79,7 +80,7 @@ fn write_asked(
     text.push_str(Field::Name.lead(format))?;
     write_word_if(text, format, taken.name)?;
     text.push_str(Field::Class.lead(format))?;
-    write_word(text, format, act_text(&taken.record.act))
+    write_word(text, format, Asked::of(&taken.record.act).text())
 }
 
 /// The stage, the cell and the rule.

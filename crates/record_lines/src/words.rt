@@ -1,28 +1,11 @@
 //! Values of records that are words, as `audit_log` writes them too.
 ghost use Rattle.std.specs.Prelude.{◌≡◌, ◌++◌};
 ghost use Rattle.audit_log.specs.Hexadecimal.{two_digits};
-ghost use Rattle.audit_log.specs.Lines.{act_text};
 ghost use Rattle.record_lines.specs.Lines.{rule_name};
 ghost use Rattle.scsi_sense.specs.Status.{status_code};
 
-use audit_log::Act;
-use permit_tables::{KeyRule, class_text};
+use permit_tables::KeyRule;
 use scsi_sense::Status;
-
-/// What was asked: the name of the command's class, or of what isn't a command.
-pub(crate) fn act_text(act: &Act) -> &'static str
-    ensures { result.now ≡ act_text act.now }
-{
-    match act {
-        Act::Command(class) => class_text(*class),
-        Act::ReserveOut(params) => class_text(params.act().class()),
-        Act::Invalid => "INVALID",
-        Act::Loss => "LOSS",
-        Act::Reset => "RESET",
-        Act::MediumIn => "MEDIUM-IN",
-        Act::MediumOut => "MEDIUM-OUT",
-    }
-}
 
 pub(crate) fn rule_name(rule: KeyRule) -> &'static str
     ensures { result.now ≡ rule_name rule }

@@ -73,6 +73,11 @@ impl Job {
         true
     }
 
+    /// Whether something that was asked for is still to be kept.
+    pub fn is_awaited(&self) -> bool {
+        !self.progress.is_settled()
+    }
+
     /// How keeping it up to a number ended, if it has.
     pub fn outcome_of(&self, number: u64) -> Option<Outcome>
         ensures { result ≡ outcome_at number self.now.progress }

@@ -18,7 +18,7 @@ use program_options::LibraryProfile;
 use std::alloc::{AllocError, Global};
 use std::marker::Model;
 use std::sync::{Mutex, Wait};
-use std::time::{Clock, Instant};
+use std::time::{Clock, Duration, Instant};
 use tape_flush::ImageStore;
 use tape_keeper::{
     CarriedOutCommand, KeepChange, KeepEvent, KeepFault, KeepListener, KeepPlace, SavedThing,
@@ -36,6 +36,8 @@ pub struct MediaKeeper<S: ImageStore + Drop, N: InventoryStore + Drop> {
     inventory: Mutex<N>,
     inventory_watch: Watch,
     requests: SharedRequests,
+    /// How long the last save took that a reply waited for.
+    last_save: Mutex<Option<Duration>>,
 }
 
 impl<S: ImageStore + Drop, N: InventoryStore + Drop> Model for MediaKeeper<S, N> {
@@ -69,6 +71,7 @@ impl<S: ImageStore + Drop, N: InventoryStore + Drop> MediaKeeper<S, N> {
             inventory: Mutex::new(store),
             inventory_watch: Watch::new(),
             requests,
+            last_save: Mutex::new(None),
         })
     }
 
@@ -176,7 +179,7 @@ impl<S: ImageStore + Drop, N: InventoryStore + Drop> MediaKeeper<S, N> {
     }
 
     /// Keeps what is to be kept next at a place, and settles it. Whether there was something.
-    fn keep_next<R: Wait, T: TapeSource<Device>, H: KeepListener>(
+    fn keep_next<R: Clock + Wait, T: TapeSource<Device>, H: KeepListener>(
         &self,
         rt: &R,
         alloc: Global,
@@ -187,7 +190,9 @@ impl<S: ImageStore + Drop, N: InventoryStore + Drop> MediaKeeper<S, N> {
         let Some(task) = self.requests.next(rt, place) else {
             return false;
         };
+        let begun = Instant::now(rt).ok();
         let outcome = if self.is_kept(rt, alloc, source, listener, task) {
+            self.note_saved(rt, begun);
             Outcome::Kept
         } else {
             Outcome::Lost
@@ -195,6 +200,16 @@ impl<S: ImageStore + Drop, N: InventoryStore + Drop> MediaKeeper<S, N> {
         self.requests.settle(rt, task, outcome);
         listener.settled();
         true
+    }
+
+    /// Notes how long a save took that is done now, where the clock could be read when it began and can be now.
+    fn note_saved<R: Clock + Wait>(&self, rt: &R, begun: Option<Instant>) {
+        let Some(begun) = begun else {
+            return;
+        };
+        if let Ok(time) = begun.elapsed(rt) {
+            *self.last_save.lock(rt) = Some(time);
+        }
     }
 
     /// Keeps what a task is for, a volume wherever it is by now. Whether it is kept.
@@ -256,6 +271,32 @@ impl<S: ImageStore + Drop, N: InventoryStore + Drop> MediaKeeper<S, N> {
             });
         }
         written.is_ok()
+    }
+
+    /// The volumes whose images can't be written at the moment.
+    pub fn failing(&self, alloc: Global) -> Result<Vec<VolumeTag>, AllocError> {
+        let mut tags = Vec::new(alloc);
+        for image in &self.images {
+            if image.watch.is_failing() {
+                tags.push(image.tag)?;
+            }
+        }
+        Ok(tags)
+    }
+
+    /// Whether the inventory can't be written at the moment.
+    pub fn is_inventory_failing(&self) -> bool {
+        self.inventory_watch.is_failing()
+    }
+
+    /// How many saves are asked for and not done: of a volume, of the inventory, or of a part of what a drive has written.
+    pub fn awaited_saves<R: Wait>(&self, rt: &R) -> usize {
+        self.requests.awaited(rt)
+    }
+
+    /// How long the last save took that a reply waited for, of a volume with the inventory where that was wanted too. None where there was none.
+    pub fn last_save<R: Wait>(&self, rt: &R) -> Option<Duration> {
+        *self.last_save.lock(rt)
     }
 
     /// Tells which volumes aren't whole on the disk, and whether all are.

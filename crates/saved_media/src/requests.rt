@@ -166,6 +166,11 @@ impl Requests {
         }
     }
 
+    /// How many items were asked for that are still to be kept.
+    pub fn awaited(&self) -> usize {
+        self.jobs.iter().filter(|job| job.is_awaited()).count()
+    }
+
     /// How many bytes aren't copied yet at a drive.
     pub fn behind(&self, lun: u8) -> u64 {
         self.backlogs.at(lun).bytes()

@@ -99,6 +99,11 @@ impl SharedRequests {
         requests.wait_for_backlog(self.numbers, lun)
     }
 
+    /// How many items were asked for that are still to be kept.
+    pub fn awaited<R: Wait>(&self, rt: &R) -> usize {
+        self.requests.lock(rt).awaited()
+    }
+
     /// How many bytes aren't copied yet at a drive.
     pub fn behind<R: Wait>(&self, rt: &R, lun: u8) -> u64 {
         self.requests.lock(rt).behind(lun)

@@ -27,6 +27,7 @@ is_detail event.Kept = false
 is_detail event.CaughtUp = false
 is_detail (event.Unwritten r) = false
 is_detail event.StatusUnsent = false
+is_detail event.MetricsUnsent = false
 
 abbrev pub end_words : Option End → List ℕ
 end_words (Some end.Logout) = codes "ended by its LOGOUT"
@@ -62,3 +63,4 @@ event_text event.Kept = codes "vtl: lines of records could not be written, and a
 event_text event.CaughtUp = codes "vtl: the lines of records that were kept are written"
 event_text (event.Unwritten r) = codes "vtl: " ++ unwritten_text r
 event_text event.StatusUnsent = codes "vtl: the status could not be sent, or was not taken in time"
+event_text event.MetricsUnsent = codes "vtl: a connection for metrics asked for none, or did not take them in time"

@@ -64,6 +64,8 @@ pub enum Event {
     Unwritten(UnwrittenRecords),
     /// Who asked for the status of the library didn't get all of it.
     StatusUnsent,
+    /// Who came for metrics asked for nothing that there is, or didn't take it in time.
+    MetricsUnsent,
 }
 
 impl Event {
@@ -85,7 +87,8 @@ impl Event {
             | Event::Kept
             | Event::CaughtUp
             | Event::Unwritten(_)
-            | Event::StatusUnsent => false,
+            | Event::StatusUnsent
+            | Event::MetricsUnsent => false,
         }
     }
 }
@@ -149,6 +152,9 @@ impl fmt::Display for Event {
             Event::StatusUnsent => {
                 f.write_str("vtl: the status could not be sent, or was not taken in time")
             }
+            Event::MetricsUnsent => f.write_str(
+                "vtl: a connection for metrics asked for none, or did not take them in time",
+            ),
         }
     }
 }
