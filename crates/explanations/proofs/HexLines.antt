@@ -1,7 +1,8 @@
 -- Hexadecimal digits, two at a time, and block by block.
-use Rattle.std.proofs.Common.{◌≡◌, ℕ, zero, suc, ◌+◌, ◌*◌, ◌/◌, ◌%◌, ◌<◌, Bool, true, ◌==◌, ◌&&◌, List, [], ◌∷◌, ◌++◌, length, slice_index, bit_and, inl, inr, refl, sym, ap, ◌∙◌, append_assoc, arith}
+use Rattle.std.proofs.Common.{◌≡◌, ℕ, zero, suc, ◌+◌, ◌*◌, ◌/◌, ◌%◌, ◌<◌, Bool, true, ◌==◌, ◌&&◌, List, [], ◌∷◌, ◌++◌, length, take, slice_index, bit_and, inl, inr, refl, sym, ap, ◌∙◌, append_assoc, arith}
 use Rattle.std.proofs.lemmas.Bool.{and_parts, cases_lt, eqb-true}
-use Rattle.std.proofs.lemmas.List.{append-nil}
+use Rattle.std.proofs.lemmas.List.{take_at}
+use Rattle.hex.proofs.HexLemmas.{length-encode_with}
 use Rattle.hex.specs.Hex.{encode_with, encode_lower, lower_digits}
 
 -- the value of each digit of a byte, the first in the low half of a word
@@ -52,8 +53,8 @@ one_block text text' whole rest block behind cut added h =
     ∙ ap (λ (xs : List ℕ). text ++ xs) (sym (encode-append lower_digits block behind))
     ∙ ap (λ (xs : List ℕ). text ++ encode_lower xs) (sym cut) ∙ h)
 
--- no byte is left
-pub all_blocks : (text whole rest : List ℕ) → length rest ≡ 0 → text ++ encode_lower rest ≡ whole → text ≡ whole
-unfolding encode_with
-all_blocks text whole [] none h = sym (append-nil text) ∙ h
-all_blocks text whole (x ∷ rest) none h = absurd (omega arith)
+-- the digits of a block that begins with some bytes begin with theirs
+pub block_begins : (bytes more block digits : List ℕ) → block ≡ bytes ++ more → digits ≡ encode_lower block → take (2 * length bytes) digits ≡ encode_lower bytes
+block_begins bytes more block digits is text =
+    ap (take (2 * length bytes)) (text ∙ ap encode_lower is ∙ encode-append lower_digits bytes more)
+    ∙ take_at (encode_lower bytes) (encode_lower more) (2 * length bytes) (length-encode_with lower_digits bytes)

@@ -1,3 +1,4 @@
 pub mod CodeLemmas
 pub mod PieceLemmas
 pub mod HexLines
+pub mod HexLanes

@@ -13,3 +13,4 @@ pub mod Explanation
 pub mod Rows
 pub mod DataRows
 pub mod HostRows
+pub mod HexDigits

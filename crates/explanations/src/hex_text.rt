@@ -1,52 +1,83 @@
-//! Bytes in hexadecimal, with lower case letters. Both digits of a byte are found at once, each in its half of a word, and
-//! nothing is looked up in a table, so that many bytes are written at a time. A block's digits are made in room of its own
-//! and then copied, so that no room of the text is cleared first.
+//! Bytes in hexadecimal, with lower case letters. Many are written a block at a time, whose digits are found by vectors.
 
-ghost use Rattle.std.specs.Prelude.{◌≡◌, ◌++◌, ◌∷◌, [], ◌*◌, ◌/◌, ◌%◌, ◌≤◌, length, slice_index, OnOk};
+ghost use Rattle.std.specs.Prelude.{◌≡◌, ◌++◌, ◌∷◌, [], ◌/◌, ◌%◌, ◌<◌, ◌≤◌, drop, length, map, slice_index, OnOk};
+ghost use Rattle.explanations.specs.HexDigits.{first_digit, second_digit};
 ghost use Rattle.hex.specs.Hex.{encode_lower, lower_digits};
 
 use std::alloc::AllocError;
+use std::simd::prelude::*;
 
 /// How many bytes are written at a time.
-const BLOCK: usize = 256;
+const BLOCK: usize = 32;
 
-/// How many digits they have.
-const ROOM: usize = 2 * BLOCK;
+/// Each digit at its value, twice, for each half of a vector.
+const DIGITS: [u8; BLOCK] = *b"0123456789abcdef0123456789abcdef";
 
 /// Adds bytes in hexadecimal.
 pub fn write_hex(text: &mut Vec<u8>, bytes: &[u8]) -> Result<(), AllocError>
     ensures { OnOk result (text.new.items ≡ text.old.items ++ encode_lower bytes.now) }
 {
-    let mut room = [0; ROOM];
     let mut rest = bytes;
-    'pieces: while !rest.is_empty() {
-        let (block, behind) = rest.split_at(rest.len().min(BLOCK));
-        write_block(text, &mut room, block)?;
+    'pieces: while rest.len() >= BLOCK {
+        let (block, behind) = rest.split_at(BLOCK);
+        text.extend_from_slice(&digits_of_block(block))?;
         rest = behind;
     }
+    write_rest(text, rest)
+}
+
+/// Adds fewer bytes than a block has, by a block that begins with them.
+fn write_rest(text: &mut Vec<u8>, bytes: &[u8]) -> Result<(), AllocError>
+    requires { length bytes.now < 32 }
+    ensures { OnOk result (text.new.items ≡ text.old.items ++ encode_lower bytes.now) }
+{
+    let mut block = [0; BLOCK];
+    begin_with(&mut block, bytes);
+    let digits = digits_of_block(&block);
+    text.extend_from_slice(&digits[..2 * bytes.len()])?;
     Ok(())
 }
 
-/// Adds a block of bytes, whose digits are made in the room given.
-fn write_block(text: &mut Vec<u8>, room: &mut [u8; ROOM], block: &[u8]) -> Result<(), AllocError>
-    requires { length block.now ≤ 256 }
-    ensures { OnOk result (text.new.items ≡ text.old.items ++ encode_lower block.now) }
+/// Puts some bytes over the first ones of a block.
+fn begin_with(block: &mut [u8], bytes: &[u8])
+    requires { length bytes.now ≤ length block.old }
+    ensures { block.new ≡ bytes.now ++ drop (length bytes.now) block.old }
 {
-    let digits = &mut room[..2 * block.len()];
-    write_digits(block, digits);
-    text.extend_from_slice(digits)
+    block[..bytes.len()].copy_from_slice(bytes);
 }
 
-/// Writes each byte as two digits.
-fn write_digits(bytes: &[u8], text: &mut [u8])
-    requires { length text.old ≡ 2 * length bytes.now }
-    ensures { text.new ≡ encode_lower bytes.now }
+/// The digits of a block.
+#[inline(always)]
+fn digits_of_block(block: &[u8]) -> [u8; 64]
+    requires { length block.now ≡ 32 }
+    ensures { result ≡ encode_lower block.now }
 {
-    'bytes: for place in 0..bytes.len() {
-        let pair = pair_of(bytes[place]);
-        text[2 * place] = (pair % 256) as u8;
-        text[2 * place + 1] = (pair / 256) as u8;
-    }
+    let bytes = u8x32::from_slice(block);
+    let digits: u8x64 = first_digits(bytes).shuffle(
+        second_digits(bytes),
+        [
+            0, 32, 1, 33, 2, 34, 3, 35, 4, 36, 5, 37, 6, 38, 7, 39, 8, 40, 9, 41, 10, 42, 11, 43,
+            12, 44, 13, 45, 14, 46, 15, 47, 16, 48, 17, 49, 18, 50, 19, 51, 20, 52, 21, 53, 22, 54,
+            23, 55, 24, 56, 25, 57, 26, 58, 27, 59, 28, 60, 29, 61, 30, 62, 31, 63,
+        ],
+    );
+    digits.to_array()
+}
+
+/// The first digit of each byte.
+#[inline(always)]
+fn first_digits(bytes: u8x32) -> u8x32
+    ensures { result ≡ map first_digit bytes }
+{
+    u8x32::from_array(DIGITS).swizzle_dyn_within::<16>(bytes >> u8x32::splat(4))
+}
+
+/// The second digit of each byte.
+#[inline(always)]
+fn second_digits(bytes: u8x32) -> u8x32
+    ensures { result ≡ map second_digit bytes }
+{
+    u8x32::from_array(DIGITS).swizzle_dyn_within::<16>(bytes & u8x32::splat(15))
 }
 
 /// The two digits of a byte.

@@ -1,8 +1,9 @@
 -- Vectors that were computed lane by lane from one.
-use Rattle.std.proofs.Common.{◌≡◌, ℕ, suc, ◌+◌, ◌-◌, ◌*◌, ◌%◌, ◌^◌, eqb, Bool, true, false, not, ◌&&◌, ◌||◌, cond, List, [], ◌∷◌, map, length, Fits, w8, refl, sym, ap, ◌∙◌, arith, inl, inr}
+use Rattle.std.proofs.Common.{◌≡◌, ℕ, suc, ◌+◌, ◌-◌, ◌*◌, ◌%◌, ◌^◌, ◌≤◌, eqb, Bool, true, false, not, ◌&&◌, ◌||◌, cond, List, [], ◌∷◌, map, length, Fits, w8, refl, sym, ap, ◌∙◌, arith, inl, inr}
 use Rattle.std.specs.List.{list_all}
 use Rattle.std.proofs.lemmas.Bool.{agree_below, agree_below_at, and_parts, cases_eq, eq-eqb, ne_eqb, eqb-true}
 use Rattle.std.proofs.lemmas.List.{length-map}
+use Rattle.std.proofs.lemmas.List.Folds.{list_all-map}
 use Rattle.std.proofs.lemmas.Simd.{map-map, mask_l-mod}
 use native.Mathlib.Nat.{two-pow-succ, one-le-pow}
 use lib.Lanes.{Each1, mask_l, sel_l, top}
@@ -26,13 +27,13 @@ all_agree : (p q : ℕ → Bool) (v : List ℕ) → Each1 (Fits w8) v → agree_
 all_agree p q [] fits e = refl
 all_agree p q (x ∷ xs) fits e = λ i. agree_below_at p q 256 x e fits.0.fits i && all_agree p q xs fits.1 e i
 
--- whether each lane is set tells whether each byte passes q
-pub all_pass : (q : ℕ → Bool) (v z : List ℕ) → length v ≡ 16 → Each1 (Fits w8) v → (f : ℕ → ℕ) → z ≡ map f v
-    → agree_below (λ x. top 7 (f x)) q 256 ≡ true → eqb (mask_l (map (top 7) z) % 2 ^ 64) 65535 ≡ list_all q v
-all_pass q v z long fits f lanes all =
+-- whether each of n lanes is set tells whether each byte passes q
+pub all_pass : (q : ℕ → Bool) (v z : List ℕ) (n : ℕ) → length v ≡ n → n ≤ 64 → Each1 (Fits w8) v → (f : ℕ → ℕ) → z ≡ map f v
+    → agree_below (λ x. top 7 (f x)) q 256 ≡ true → eqb (mask_l (map (top 7) z) % 2 ^ 64) (2 ^ n - 1) ≡ list_all q v
+all_pass q v z n long few fits f lanes all =
     let p = λ (x : ℕ). top 7 (f x) in
     let mask = ap (λ l. mask_l l % 2 ^ 64) (ap (map (top 7)) lanes ∙ map-map (top 7) f v) ∙ mask_l-mod (map p v) 64 (omega (arith, length-map v p)) in
-    ap (λ m. eqb m 65535) mask ∙ ap (λ n. eqb (mask_l (map p v)) (2 ^ n - 1)) (sym long) ∙ all_set p v ∙ all_agree p q v fits all
+    ap (λ m. eqb m (2 ^ n - 1)) mask ∙ ap (λ k. eqb (mask_l (map p v)) (2 ^ k - 1)) (sym long) ∙ all_set p v ∙ all_agree p q v fits all
 
 choice : (t : ℕ → Bool) (f g : ℕ → ℕ) (v : List ℕ) → sel_l (map t v) (map f v) (map g v) ≡ map (λ x. cond (t x) (f x) (g x)) v
 choice t f g [] = refl
@@ -50,10 +51,21 @@ map_agree p f g (x ∷ xs) fits pass e =
     let here = same_value (p x) (f x) (g x) parts.0 (agree_below_at (λ x. not (p x) || eqb (f x) (g x)) (λ _. true) 256 x e fits.0.fits) in
     λ i. here i ∷ map_agree p f g xs fits.1 parts.1 e i
 
--- a choice between two vectors, at bytes that pass
+-- a choice between two vectors
+selected : (v : List ℕ) (m f g : ℕ → ℕ) {ms xs ys : List ℕ} → ms ≡ map m v → xs ≡ map f v → ys ≡ map g v
+    → sel_l (map (top 7) ms) xs ys ≡ map (λ x. cond (top 7 (m x)) (f x) (g x)) v
+selected v m f g em ef eg =
+    (λ i. sel_l (map (top 7) (em i)) (ef i) (eg i)) ∙ ap (λ l. sel_l l (map f v) (map g v)) (map-map (top 7) m v) ∙ choice (λ x. top 7 (m x)) f g v
+
+-- the same, at bytes that pass
 pub chosen : (p : ℕ → Bool) (h : ℕ → ℕ) (v : List ℕ) → Each1 (Fits w8) v → list_all p v ≡ true → (m f g : ℕ → ℕ) {ms xs ys : List ℕ} → ms ≡ map m v → xs ≡ map f v → ys ≡ map g v
     → agree_below (λ x. not (p x) || eqb (cond (top 7 (m x)) (f x) (g x)) (h x)) (λ _. true) 256 ≡ true → sel_l (map (top 7) ms) xs ys ≡ map h v
 chosen p h v fits pass m f g em ef eg all =
-    let t = λ (x : ℕ). top 7 (m x) in
-    (λ i. sel_l (map (top 7) (em i)) (ef i) (eg i)) ∙ ap (λ l. sel_l l (map f v) (map g v)) (map-map (top 7) m v) ∙ choice t f g v
-    ∙ map_agree p (λ x. cond (t x) (f x) (g x)) h v fits pass all
+    selected v m f g em ef eg ∙ map_agree p (λ x. cond (top 7 (m x)) (f x) (g x)) h v fits pass all
+
+-- and which bytes pass, by a test of what is chosen
+pub chosen_pass : (p q : ℕ → Bool) (v : List ℕ) → Each1 (Fits w8) v → (m f g : ℕ → ℕ) {ms xs ys : List ℕ} → ms ≡ map m v → xs ≡ map f v → ys ≡ map g v
+    → agree_below (λ x. p (cond (top 7 (m x)) (f x) (g x))) q 256 ≡ true → list_all p (sel_l (map (top 7) ms) xs ys) ≡ list_all q v
+chosen_pass p q v fits m f g em ef eg all =
+    let h = λ (x : ℕ). cond (top 7 (m x)) (f x) (g x) in
+    ap (list_all p) (selected v m f g em ef eg) ∙ list_all-map p h v ∙ all_agree (λ x. p (h x)) q v fits all

@@ -6,3 +6,5 @@ pub mod Limits
 pub mod RowLemmas
 pub mod Pieces
 pub mod Lanes
+pub mod BlockLemmas
+pub mod ShortLines

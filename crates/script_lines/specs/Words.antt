@@ -1,5 +1,5 @@
 -- The words of a script's line: what each says, or its fault.
-use Rattle.std.specs.Prelude.{ℕ, ◌+◌, ◌-◌, ◌*◌, ◌/◌, ◌%◌, ◌≡◌, ◌==◌, ◌&&◌, not, nat_lt, nat_le, Bool, List, [], ◌∷◌, length, take, slice_index, Option, Some, None, Result, Ok, Err, if◌then◌else◌}
+use Rattle.std.specs.Prelude.{ℕ, ◌+◌, ◌-◌, ◌*◌, ◌/◌, ◌%◌, ◌≡◌, ◌==◌, ◌&&◌, not, nat_lt, nat_le, Bool, List, [], ◌∷◌, ◌++◌, length, take, slice_index, Option, Some, None, Result, Ok, Err, if◌then◌else◌}
 use Rattle.std.specs.Int.{w64, from_be_bytes}
 use Rattle.hex.specs.Hex.{decode_of}
 use Rattle.hex.specs.declared.error.FromHexError.{FromHexError}
@@ -26,6 +26,15 @@ digit_value digit = (digit % 16 + digit / 64 * 9) % 16
 abbrev pub hex_bytes : Result (List ℕ) FromHexError → Option (List ℕ)
 hex_bytes (Ok bytes) = Some bytes
 hex_bytes (Err e) = None
+
+-- whether a number has four bits
+abbrev pub is_small : ℕ → Bool
+is_small n = nat_lt n 16
+
+-- some bytes with others behind them, if there are any
+abbrev pub behind : List ℕ → Option (List ℕ) → Option (List ℕ)
+behind front None = None
+behind front (Some bytes) = Some (front ++ bytes)
 
 abbrev pub nexus_at : Option (List ℕ) → ℕ → Result Nexus LineFault
 nexus_at None port = Err BadNexus

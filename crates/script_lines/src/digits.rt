@@ -1,56 +1,55 @@
-//! Hexadecimal digits to bytes. For many no loop looks a digit up or ends at a wrong one, so that many digits are taken
-//! at a time; few are taken one by one.
+//! Hexadecimal digits to bytes: those of data a block at a time, the few of a CDB one by one.
 
-ghost use Rattle.std.specs.Prelude.{◌≡◌, ◌+◌, ◌*◌, ◌%◌, ◌<◌, true, Ok, None, length, IfOk, IfSome};
+ghost use Rattle.std.specs.Prelude.{◌≡◌, ◌+◌, ◌*◌, ◌%◌, ◌<◌, ◌≤◌, ◌++◌, ℕ, Ok, None, drop, length, IfOk, IfSome};
 ghost use Rattle.std.specs.Bool.{MatchBool};
-ghost use Rattle.std.specs.List.{list_all};
-ghost use Rattle.hex.specs.Hex.{decode_of, hex_digit_value, is_hex_digit};
-ghost use Rattle.script_lines.specs.Words.{digit_value, hex_bytes};
+ghost use Rattle.std.specs.Global.{Vec};
+ghost use Rattle.std.specs.Option.{option_map};
+ghost use Rattle.hex.specs.Hex.{decode_of, hex_digit_value};
+ghost use Rattle.script_lines.specs.Words.{behind, hex_bytes};
 
+use crate::blocks::{BLOCK, bytes_of_block};
 use std::alloc::{AllocError, Global};
 
-/// Whether all are hexadecimal digits, in either case.
-pub fn are_digits(word: &[u8]) -> bool
-    ensures { result ≡ list_all is_hex_digit word.now }
+/// The bytes of pairs of hexadecimal digits, in either case, if all are digits.
+pub fn decoded(alloc: Global, word: &[u8]) -> Result<Option<Vec<u8>>, AllocError>
+    requires { length word.now % 2 ≡ 0 }
+    ensures { IfOk result (λ read. option_map (λ (bytes : Vec ℕ). bytes.items) read ≡ hex_bytes (decode_of word.now)) }
 {
-    let mut good = true;
-    for digit in word {
-        good &= is_digit(*digit);
+    let mut bytes = Vec::with_capacity(alloc, word.len() / 2)?;
+    let mut rest = word;
+    'pieces: while rest.len() >= BLOCK {
+        let (block, behind) = rest.split_at(BLOCK);
+        let Some(read) = bytes_of_block(block) else {
+            return Ok(None);
+        };
+        bytes.extend_from_slice(&read)?;
+        rest = behind;
     }
-    good
+    add_rest(bytes, rest)
 }
 
-fn is_digit(digit: u8) -> bool
-    ensures { result ≡ is_hex_digit digit }
+/// The bytes with those of fewer digits than a block has behind them, by a block that begins with these.
+fn add_rest(bytes: Vec<u8>, digits: &[u8]) -> Result<Option<Vec<u8>>, AllocError>
+    requires even { length digits.now % 2 ≡ 0 }
+    requires few { length digits.now < 64 }
+    ensures { IfOk result (λ read. option_map (λ (all : Vec ℕ). all.items) read ≡ behind bytes.items (hex_bytes (decode_of digits.now))) }
 {
-    matches!(digit, b'0'..=b'9' | b'a'..=b'f' | b'A'..=b'F')
+    let mut block = [b'0'; BLOCK];
+    begin_with(&mut block, digits);
+    let Some(read) = bytes_of_block(&block) else {
+        return Ok(None);
+    };
+    let mut all = bytes;
+    all.extend_from_slice(&read[..digits.len() / 2])?;
+    Ok(Some(all))
 }
 
-/// The bytes of pairs of hexadecimal digits.
-#[tactic(auto, using(crate::proofs::Pairs::pairs_decode))]
-pub fn decoded(alloc: Global, word: &[u8]) -> Result<Vec<u8>, AllocError>
-    requires even { length word.now % 2 ≡ 0 }
-    requires digits { list_all is_hex_digit word.now ≡ true }
-    ensures { IfOk result (λ bytes. decode_of word.now ≡ Ok bytes.items) }
+/// Puts some digits over the first ones of a block.
+fn begin_with(block: &mut [u8], digits: &[u8])
+    requires { length digits.now ≤ length block.old }
+    ensures { block.new ≡ digits.now ++ drop (length digits.now) block.old }
 {
-    word.chunks_exact(2)
-        .map(|pair| byte_of(pair[0], pair[1]))
-        .collect(alloc)
-}
-
-/// The byte of two hexadecimal digits.
-fn byte_of(high: u8, low: u8) -> u8
-    ensures { result ≡ digit_value high * 16 + digit_value low }
-{
-    value_of(high) * 16 + value_of(low)
-}
-
-/// The value of a hexadecimal digit: the low bits of its code, which begin at 1 in both alphabets.
-fn value_of(digit: u8) -> u8
-    ensures value { result ≡ digit_value digit }
-    ensures small { result < 16 }
-{
-    (digit % 16 + digit / 64 * 9) % 16
+    block[..digits.len()].copy_from_slice(digits);
 }
 
 /// Reads pairs of hexadecimal digits, a pair for each byte of the room, and says whether all are digits.

@@ -1,10 +1,13 @@
-ghost use Rattle.std.specs.Prelude.{◌≡◌, List, [], ◌∷◌, ◌++◌, IfOk, OnOk};
+ghost use Rattle.std.specs.Prelude.{◌≡◌, List, [], ◌∷◌, ◌++◌, OnOk};
 ghost use Rattle.target_core.specs.declared.event.Event.{Event};
 ghost use Rattle.script_lines.specs.Events.{joined};
 
 use std::alloc::{AllocError, Global};
 use std::marker::Model;
 use target_core::Event;
+
+/// How many events the first piece has room for.
+const FIRST_PIECE: usize = 16;
 
 /// The most events of a piece, some 300 KB.
 const PIECE: usize = 4_096;
@@ -31,32 +34,37 @@ impl Events {
         }
     }
 
-    /// Adds an event behind the others. The first piece grows with its events, and each later one has its
-    /// room from the start.
+    /// Adds an event behind the others. Where there is room for it, nothing holds it in between.
     #[inline(always)]
     pub fn push(&mut self, alloc: Global, event: Event) -> Result<(), AllocError>
         ensures { OnOk result (self.new ≡ self.old ++ event ∷ []) }
     {
         if let Some(last) = self.pieces.last_mut()
-            && last.len() < PIECE
+            && last.len() < last.capacity()
         {
-            last.push(event)?;
+            last.push_reserved(event);
             return Ok(());
         }
-        let mut piece = self.next_piece(alloc)?;
+        self.begin_piece(alloc, event)
+    }
+
+    /// Adds an event in a piece of its own.
+    #[cold]
+    #[inline(never)]
+    fn begin_piece(&mut self, alloc: Global, event: Event) -> Result<(), AllocError>
+        ensures { OnOk result (self.new ≡ self.old ++ event ∷ []) }
+    {
+        let mut piece = Vec::with_capacity(alloc, self.next_room())?;
         piece.push(event)?;
         self.pieces.push(piece)?;
         Ok(())
     }
 
-    /// The piece to come, without events.
-    fn next_piece(&self, alloc: Global) -> Result<Vec<Event>, AllocError>
-        ensures { IfOk result (λ piece. piece.items ≡ []) }
-    {
-        if self.pieces.is_empty() {
-            Ok(Vec::new(alloc))
-        } else {
-            Vec::with_capacity(alloc, PIECE)
+    /// How many events the next piece has room for: twice as many as the last one holds.
+    fn next_room(&self) -> usize {
+        match self.pieces.last() {
+            None => FIRST_PIECE,
+            Some(last) => last.len().saturating_mul(2).min(PIECE),
         }
     }
 

@@ -1,6 +1,7 @@
 //! The script of a replay, and that of one host, as text: its lines to events or requests, or its first line with a fault.
 #![tactic(auto)]
 
+mod blocks;
 mod client_request;
 mod cutting;
 mod digits;

@@ -1,20 +1,24 @@
-ghost use Rattle.std.specs.Prelude.{◌≡◌, ◌∷◌, ℕ, List, OnOk, IfErr};
+ghost use Rattle.std.specs.Prelude.{◌≡◌, ◌∷◌, ◌++◌, [], ℕ, List, Ok, OnOk, IfErr, IfSome};
+ghost use Rattle.scsi_cdb.specs.declared.profile.Profile.{Profile};
 ghost use denote.Ref.{Bor};
 ghost use Rattle.std.specs.Option.{option_map};
+ghost use Rattle.script_lines.specs.declared.line.LineError.TheVariants.{NoMemory};
 ghost use Rattle.script_lines.specs.Limits.{line_limit};
-ghost use Rattle.script_lines.specs.Words.{Gives, Fails, hex_in};
-ghost use Rattle.script_lines.specs.Text.{pieces_after};
-ghost use Rattle.script_lines.specs.Lines.{said, some_said, words_seen, words_in, bytes_in, command_in, loss_in, sole_unit_in, other_in, line_in};
+ghost use Rattle.script_lines.specs.Words.{Gives, Fails};
+ghost use Rattle.script_lines.specs.Text.{pieces, pieces_after};
+ghost use Rattle.script_lines.specs.Lines.{Command, event_in, said, some_said, words_seen, words_in, bytes_in, command_in, loss_in, sole_unit_in, other_in, line_in};
 ghost use Rattle.script_lines.specs.Script.{TakesLine, saids};
 
 use crate::cutting::{cut, is_end};
 use crate::events::Events;
 use crate::words::{bytes_of, cdb_of, nexus_of, unit_of};
+use arrayvec::ArrayVec;
 use frames::most_command_data;
 use script_input::LineFault;
 use scsi_cdb::Profile;
+use scsi_nexus::Nexus;
 use std::alloc::{AllocError, Global};
-use target_core::Event;
+use target_core::{Event, MAX_CDB};
 
 /// The longest line of a script for a library of the default profile, without its line feed.
 const MAX_LINE: usize = 270_000;
@@ -70,6 +74,35 @@ pub struct Words<'a> {
     pub data: Option<&'a [u8]>,
 }
 
+/// A command without data.
+#[derive(Drop)]
+struct ShortCommand {
+    nexus: Nexus,
+    lun: u8,
+    cdb: ArrayVec<u8, MAX_CDB>,
+}
+
+/// The command of a line without data whose unit has one digit, as most have: its words stand where they are looked for.
+#[inline(always)]
+fn short_command(line: &[u8]) -> Option<ShortCommand>
+    ensures { IfSome result (λ command. (profile : Profile)
+        → event_in profile (pieces 32 line.now) ≡ Ok (Command command.nexus command.lun command.cdb.items [])) }
+{
+    if line.len() < 22 || line.len() > 53 || line[18] != b' ' || line[20] != b' ' {
+        return None;
+    }
+    let Ok(nexus) = nexus_of(&line[..18]) else {
+        return None;
+    };
+    let Ok(lun) = unit_of(&line[19..20]) else {
+        return None;
+    };
+    let Ok(cdb) = cdb_of(&line[21..]) else {
+        return None;
+    };
+    Some(ShortCommand { nexus, lun, cdb })
+}
+
 /// Adds the event of a line: none for an empty one and for a comment. An event is added where it is made, since what
 /// holds it in between would be copied.
 #[tactic(auto, unfolding(crate::specs::Lines::line_in))]
@@ -88,11 +121,32 @@ pub fn take_event(
     if line.is_empty() || line[0] == b'#' {
         return Ok(());
     }
+    if let Some(command) = short_command(line) {
+        return take_short(alloc, events, command);
+    }
     let (first, rest) = cut(line, b' ');
     if first == b"loss".as_slice() || first == b"reset".as_slice() {
         return take_other(alloc, events, first, rest);
     }
     take_command(alloc, profile, events, first, rest)
+}
+
+/// Adds a command without data.
+#[inline(always)]
+fn take_short(alloc: Global, events: &mut Events, command: ShortCommand) -> Result<(), LineError>
+    ensures ok { OnOk result (saids events.new ≡ saids events.old ++ Command command.nexus command.lun command.cdb.items [] ∷ []) }
+    ensures err { IfErr result (λ error. error ≡ NoMemory) }
+{
+    let ShortCommand { nexus, lun, cdb } = command;
+    let bytes = Vec::new(alloc);
+    let event = Event::Command {
+        nexus,
+        lun,
+        cdb,
+        bytes,
+    };
+    events.push(alloc, event)?;
+    Ok(())
 }
 
 /// Adds the event of a line whose first word is `loss`, or `reset` where it is another, from the words behind it.

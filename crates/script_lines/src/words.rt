@@ -1,18 +1,14 @@
 ghost use Rattle.std.specs.Prelude.{◌≡◌, Ok, Err, MatchResult};
 ghost use Rattle.script_lines.specs.Words.{Gives, nexus_in, unit_in, hex_in};
 
-use crate::digits::{are_digits, decoded, read_pairs};
+use crate::digits::{decoded, read_pairs};
 use crate::line::LineError;
 use crate::sixteen::sixteen_digits;
 use arrayvec::ArrayVec;
-use hex::FromHexError;
 use script_input::LineFault;
 use scsi_nexus::{Nexus, TARGET_PORTS};
 use std::alloc::{AllocError, Global};
 use target_core::MAX_CDB;
-
-/// Up to so many digits are decoded sooner one by one than many at a time.
-const SHORT: usize = 32;
 
 /// The nexus of a word `SAS.PORT`: 16 hexadecimal digits, a dot, a port.
 #[tactic(auto, unfolding(crate::specs::Words::nexus_in))]
@@ -74,37 +70,8 @@ pub fn cdb_of(word: &[u8]) -> Result<ArrayVec<u8, MAX_CDB>, LineFault>
 }
 
 /// The 1 to `limit` bytes of a word in hexadecimal.
-pub fn bytes_of(alloc: Global, word: &[u8], limit: usize) -> Result<Vec<u8>, LineError>
-    ensures { Gives (λ bytes. bytes.items) result (hex_in limit word.now) }
-{
-    if word.len() <= SHORT {
-        few_bytes_of(alloc, word, limit)
-    } else {
-        many_bytes_of(alloc, word, limit)
-    }
-}
-
-/// The same, a byte at a time.
-#[tactic(auto, unfolding(crate::specs::Words::hex_in))]
-fn few_bytes_of(alloc: Global, word: &[u8], limit: usize) -> Result<Vec<u8>, LineError>
-    ensures { Gives (λ bytes. bytes.items) result (hex_in limit word.now) }
-{
-    match hex::decode(alloc, word) {
-        Ok(bytes) => {
-            if bytes.is_empty() || bytes.len() > limit {
-                Err(LineError::Fault(LineFault::BadHex))
-            } else {
-                Ok(bytes)
-            }
-        }
-        Err(FromHexError::OutOfMemory) => Err(LineError::NoMemory),
-        Err(_) => Err(LineError::Fault(LineFault::BadHex)),
-    }
-}
-
-/// The same, many bytes at a time.
 #[tactic(auto, using(crate::proofs::Pairs::refusals), unfolding(crate::specs::Words::hex_in))]
-fn many_bytes_of(alloc: Global, word: &[u8], limit: usize) -> Result<Vec<u8>, LineError>
+pub fn bytes_of(alloc: Global, word: &[u8], limit: usize) -> Result<Vec<u8>, LineError>
     ensures { Gives (λ bytes. bytes.items) result (hex_in limit word.now) }
 {
     let count = word.len() / 2;
@@ -114,11 +81,9 @@ fn many_bytes_of(alloc: Global, word: &[u8], limit: usize) -> Result<Vec<u8>, Li
     if word.len() % 2 != 0 {
         return Err(LineError::Fault(LineFault::BadHex));
     }
-    if !are_digits(word) {
-        return Err(LineError::Fault(LineFault::BadHex));
-    }
     match decoded(alloc, word) {
-        Ok(bytes) => Ok(bytes),
+        Ok(Some(bytes)) => Ok(bytes),
+        Ok(None) => Err(LineError::Fault(LineFault::BadHex)),
         Err(AllocError) => Err(LineError::NoMemory),
     }
 }

@@ -1,6 +1,0 @@
-use Rattle.std.proofs.Common.{◌≡◌, ◌*◌, ◌++◌, take, drop}
-use Rattle.hex.specs.Hex.{encode_lower}
-use Rattle.explanations.proofs.hex_text.write_digits.Given as goal
-
-abbrev pub invariant-bytes : goal.invariant-bytes
-invariant-bytes l = take (2 * l.place) l.text ++ encode_lower (drop l.place l.bytes) ≡ encode_lower l.bytes
