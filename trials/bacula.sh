@@ -5,33 +5,16 @@
 # the next run.
 set -eu
 trials=$(cd "$(dirname "$0")" && pwd -P)
-top=${trials%/*}
-packages=systemd-sysv,udev,dbus,kmod,initramfs-tools,linux-image-amd64,open-iscsi,mtx,mt-st,lsscsi,sg3-utils,iproute2
-work=$(mktemp -d)
-kept=${1:-$work}
-guest=$work/guest
-server=
-trap '[ -z "$server" ] || kill "$server"; rm -rf "$work"' EXIT
-trap 'exit 1' HUP INT TERM
-
 # shellcheck source=trials/guest.sh
 . "$trials/guest.sh"
 
 say "a root"
-make_roots "$packages" "$guest"
+make_roots "$guest"
 # With the catalog in a file: debootstrap would take the first alternative of each dependency.
-chroot "$guest" env DEBIAN_FRONTEND=noninteractive apt-get install -y --no-install-recommends bacula-director bacula-director-sqlite3 \
-    bacula-sd bacula-fd bacula-console sqlite3 >"$work/installed" 2>&1 || { tail "$work/installed"; exit 1; }
+install_in "$guest" bacula-director bacula-director-sqlite3 bacula-sd bacula-fd bacula-console sqlite3
 
 say "a library of small tapes"
-"$top/vtl" serve --iscsi 127.0.0.1:13270=10.0.2.2:13270 --any-host --profile hosts --library-id 1A2B3C4D --drives 2 --slots 6 --volumes 4 \
-    --volume-size 64M </dev/null >"$work/records" 2>"$work/told" &
-server=$!
-until grep -qs '^vtl: serving at ' "$work/told"; do
-    kill -0 "$server" 2>/dev/null || { cat "$work/told"; exit 1; }
-    sleep 0.1
-done
-cat "$work/told"
+serve 13270 1A2B3C4D --drives 2 --slots 6 --volumes 4 --volume-size 64M
 
 say "a guest"
 run_guest "$guest" "$trials/bacula_guest.sh"

@@ -57,7 +57,7 @@ console() {
 }
 
 # The largest block that drives take.
-block=$((64 * 1024))
+block=$((1024 * 1024))
 modprobe sg
 modprobe st
 modprobe ch

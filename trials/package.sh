@@ -6,20 +6,11 @@
 # e2fsprogs and qemu-system-x86; with a folder as its argument the root is kept there for the next run, as it is after debootstrap.
 set -eu
 trials=$(cd "$(dirname "$0")" && pwd -P)
-top=${trials%/*}
-port=13260
-packages=systemd-sysv,udev,dbus,kmod,initramfs-tools,linux-image-amd64,open-iscsi,mtx,mt-st,lsscsi,sg3-utils,iproute2
-clean="env -i PATH=/usr/sbin:/usr/bin:/sbin:/bin DEBIAN_FRONTEND=noninteractive LC_ALL=C.UTF-8"
-work=$(mktemp -d)
-kept=${1:-$work}
-root=$work/root
-guest=$work/guest
-server=
-trap '[ -z "$server" ] || kill "$server"; rm -rf "$work"' EXIT
-trap 'exit 1' HUP INT TERM
-
 # shellcheck source=trials/guest.sh
 . "$trials/guest.sh"
+port=13260
+clean="env -i PATH=/usr/sbin:/usr/bin:/sbin:/bin DEBIAN_FRONTEND=noninteractive LC_ALL=C.UTF-8"
+root=$work/root
 
 # Runs a command in a root, without this machine's environment.
 in_root() {
@@ -44,9 +35,9 @@ start_by_hand() {
     } >"$root/tmp/start"
     # shellcheck disable=SC2086 # it is several words
     chroot "$root" $clean setpriv --reuid vtl --regid vtl --init-groups sh /tmp/start >"$work/told" 2>&1 </dev/null &
-    server=$!
+    servers=$!
     until grep -qs '^vtl: serving at ' "$work/told"; do
-        kill -0 $server 2>/dev/null || { cat "$work/told"; exit 1; }
+        kill -0 $servers 2>/dev/null || { cat "$work/told"; exit 1; }
         sleep 0.1
     done
     cat "$work/told"
@@ -54,9 +45,9 @@ start_by_hand() {
 
 # Each of the programs above becomes the next, so this is the script that handles signals, as systemd has it for the main process.
 stop_by_hand() {
-    kill -TERM $server
-    wait $server
-    server=
+    kill -TERM $servers
+    wait $servers
+    servers=
 }
 
 # A second package: the same files, of a later version.
@@ -74,7 +65,7 @@ make_second
 ls "$work"/*.deb
 
 say "a root"
-make_roots "$packages" "$root" "$guest"
+make_roots "$root" "$guest"
 for each in "$root" "$guest"; do
     cp "$work/$first" "$each/var/tmp/vtl_1.deb"
     cp "$work/second.deb" "$each/var/tmp/vtl_2.deb"

@@ -5,35 +5,12 @@
 # there for the next run.
 set -eu
 trials=$(cd "$(dirname "$0")" && pwd -P)
-top=${trials%/*}
-packages=systemd-sysv,udev,dbus,kmod,initramfs-tools,linux-image-amd64,open-iscsi,mtx,mt-st,lsscsi,sg3-utils,iproute2,sdparm,smartmontools
-work=$(mktemp -d)
-kept=${1:-$work}
-guest=$work/guest
-servers=
-trap '[ -z "$servers" ] || kill $servers; rm -rf "$work"' EXIT
-trap 'exit 1' HUP INT TERM
-
 # shellcheck source=trials/guest.sh
 . "$trials/guest.sh"
 
-# Serves a library at a port, with a number and further options.
-serve() {
-    port=$1
-    number=$2
-    shift 2
-    "$top/vtl" serve --iscsi "127.0.0.1:$port=10.0.2.2:$port" --target-name "iqn.2026-11.localhost:$number" --any-host --profile hosts \
-        --library-id "$number" "$@" </dev/null >"$work/records_$number" 2>"$work/told_$number" &
-    servers="$servers $!"
-    until grep -qs '^vtl: serving at ' "$work/told_$number"; do
-        kill -0 $! 2>/dev/null || { cat "$work/told_$number"; exit 1; }
-        sleep 0.1
-    done
-    cat "$work/told_$number"
-}
-
 say "a root"
-make_roots "$packages" "$guest"
+make_roots "$guest"
+install_in "$guest" sdparm smartmontools
 
 say "two libraries"
 serve 13260 1A2B3C4D --drives 2 --slots 4 --volumes 4 --volume-size 256M

@@ -113,6 +113,23 @@ see smartctl -H -H "$drive" <<'END'
 TapeAlert: OK
 END
 see sg_senddiag --test "$drive" </dev/null
+# Blocks of 1 MiB, and blocks of 512 bytes, of which a command transfers 1 MiB.
+head -c 8388608 /dev/urandom >/root/written
+see mt -f "$tape" rewind </dev/null
+see sh -c "tar -c -b 2048 -f $tape -C / usr/bin" </dev/null
+see mt -f "$tape" rewind </dev/null
+see sh -c "cd / && tar -d -b 2048 -f $tape" </dev/null
+for each in 0 512; do
+    see mt -f "$tape" rewind </dev/null
+    see mt -f "$tape" setblk $each </dev/null
+    see dd if=/root/written of="$tape" bs=1M </dev/null
+    see mt -f "$tape" rewind </dev/null
+    see dd if="$tape" of=/root/read bs=1M <<'END'
+8+0 records in
+END
+    see cmp /root/written /root/read </dev/null
+done
+see mt -f "$tape" setblk 0 </dev/null
 see mt -f "$tape" offline </dev/null
 see_failing mt -f "$tape" fsf 1 <<'END'
 No medium found
