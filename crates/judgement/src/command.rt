@@ -4,8 +4,8 @@ ghost use Rattle.judgement.specs.Commands.{command_of, class_of_command, passes_
 
 use crate::conditions::condition_of_fault;
 use crate::received::ReceivedCommand;
-use crate::reserve_params::ReserveParams;
 use audit_log::Act;
+use permit_tables::KeptParams;
 use pr_params::read_out;
 use scsi_cdb::{Class, InServiceAction, Request, class, class_of_prevent};
 use scsi_sense::Condition;
@@ -15,7 +15,7 @@ use std::alloc::{AllocError, Global};
 #[derive(Drop)]
 pub enum Command {
     /// PERSISTENT RESERVE OUT with its parameter list.
-    ReserveOut(ReserveParams),
+    ReserveOut(KeptParams),
     /// PERSISTENT RESERVE IN.
     ReserveIn {
         service_action: InServiceAction,
@@ -73,10 +73,13 @@ impl Command {
                 service_action,
                 scope_type,
                 parameter_list_length,
-            } => match read_out(service_action, scope_type, parameter_list_length, bytes) {
-                Ok(params) => Ok(Ok(Command::ReserveOut(ReserveParams::new(alloc, params)?))),
-                Err(_) => Ok(Err(Condition::ParameterListLengthError)),
-            },
+            } => {
+                let length = parameter_list_length;
+                match read_out(alloc, service_action, scope_type, length, bytes)? {
+                    Ok(params) => Ok(Ok(Command::ReserveOut(KeptParams::new(alloc, params)?))),
+                    Err(_) => Ok(Err(Condition::ParameterListLengthError)),
+                }
+            }
             Request::PersistentReserveIn {
                 service_action,
                 allocation_length,
@@ -138,14 +141,13 @@ pub fn passes_over(class: Class) -> bool
     )
 }
 
-/// What a record says was asked by bytes. PERSISTENT RESERVE OUT alone takes memory, for its list.
-pub fn act_of(alloc: Global, decoded: &Result<Command, Condition>) -> Result<Act, AllocError>
-    ensures ok { IfOk result (λ act. act ≡ act_of_decoded decoded.now) }
-    ensures want { OnErr result (is_reserve_out decoded.now ≡ true) }
+/// What a record says was asked by bytes.
+pub fn act_of(decoded: Result<Command, Condition>) -> Act
+    ensures { result ≡ act_of_decoded decoded }
 {
     match decoded {
-        Ok(Command::ReserveOut(list)) => Ok(Act::ReserveOut(list.params().keep(alloc)?)),
-        Ok(command) => Ok(Act::Command(command.class())),
-        Err(_) => Ok(Act::Invalid),
+        Ok(Command::ReserveOut(list)) => Act::ReserveOut(list),
+        Ok(command) => Act::Command(command.class()),
+        Err(_) => Act::Invalid,
     }
 }

@@ -12,7 +12,6 @@ mod layout;
 mod preventers;
 mod received;
 mod reply;
-mod reserve_params;
 mod stages;
 mod standing;
 mod unit_data;
@@ -24,7 +23,6 @@ pub use conditions::{condition_of_attention, condition_of_fault, condition_of_re
 pub use decision::Decision;
 pub use received::ReceivedCommand;
 pub use reply::Reply;
-pub use reserve_params::ReserveParams;
 pub use stages::judge;
 pub use standing::{Standing, stands_before};
 pub use unit_data::{inquiry, report_luns, sense_data};

@@ -67,8 +67,7 @@ fn follow(reservations: &mut PrState, nobody: &mut Queues, entry: &Record)
     };
     match (&entry.act, entry.status) {
         (Act::ReserveOut(params), Status::Good) => {
-            let params = params.open();
-            let applied = reservations.apply(nexus, &params, nobody);
+            let applied = reservations.apply(nexus, params.params(), nobody);
             // What was accepted once is accepted again: the prover alone is told.
             prove!(applied.is_ok());
         }

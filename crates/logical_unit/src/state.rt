@@ -199,8 +199,6 @@ impl RecordedUnit {
     {
         let nexus = received.nexus();
         let decoded = Command::of(alloc, received)?;
-        let act = act_of(alloc, &decoded)?;
-        let kind = act_kind_of(&act);
         let (decision, reply) = judge(
             alloc,
             device,
@@ -209,6 +207,8 @@ impl RecordedUnit {
             &decoded,
             received.bytes(),
         )?;
+        let act = act_of(decoded);
+        let kind = act_kind_of(&act);
         let trail = &mut self.trail;
         let number = note(trail, Some(nexus), act, decision, reply.status, reply.sense);
         Ok((reply.numbered(number), kind))
@@ -238,7 +238,6 @@ impl RecordedUnit {
     {
         let nexus = received.nexus();
         let decoded = Command::of(alloc, received)?;
-        let act = act_of(alloc, &decoded)?;
         let found = judge_move(
             alloc,
             device,
@@ -247,6 +246,7 @@ impl RecordedUnit {
             &decoded,
             received.bytes(),
         )?;
+        let act = act_of(decoded);
         let (decision, reply) = match found {
             MoveFinding::Left(decision) => return Ok(MoveJudgement::Left(act, decision)),
             MoveFinding::Ended(decision, reply) => (decision, reply),

@@ -1,3 +1,4 @@
+pub mod AddressList
 pub mod Pairs
 pub mod Types
 pub mod Permission

@@ -3,6 +3,7 @@
 //! the rules on keys, and why an allowed command is refused.
 #![tactic(auto)]
 
+mod addresses;
 mod cell;
 mod class_names;
 mod kept_params;
@@ -16,6 +17,7 @@ mod res_type;
 mod role;
 mod words;
 
+pub use addresses::Addresses;
 pub use cell::{Cell, allowed};
 pub use class_names::class_text;
 pub use kept_params::KeptParams;

@@ -1,12 +1,11 @@
-use crate::layout::TARGETS;
+use crate::addresses::Addresses;
 use crate::list_defect::ListDefect;
-use arrayvec::ArrayVec;
 use scsi_cdb::OutServiceAction;
 use scsi_nexus::Nexus;
 
 /// A PERSISTENT RESERVE OUT command with its parameter list (SPC-4, "PERSISTENT RESERVE OUT
 /// command").
-#[derive(Clone, Drop)]
+#[derive(Drop)]
 pub struct OutParams {
     /// The RESERVATION KEY, 0 for none.
     pub rk: u64,
@@ -28,5 +27,5 @@ pub struct OutParams {
     /// SPEC_I_PT of either REGISTER: the list names further SAS addresses.
     pub listed: bool,
     /// The SAS addresses that a REGISTER list without a defect names, in its order.
-    pub targets: ArrayVec<u64, TARGETS>,
+    pub targets: Addresses,
 }

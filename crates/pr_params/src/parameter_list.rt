@@ -1,4 +1,4 @@
-ghost use Rattle.std.specs.Prelude.{◌≡◌, ◌≤◌, length};
+ghost use Rattle.std.specs.Prelude.{◌≡◌, ◌≤◌, length, IsOk, IfOk, OnErr};
 ghost use Rattle.pr_params.specs.Lists.{decoded_list, is_format_length, basic_params, move_params, move_defect, moved_to};
 
 use crate::bits::is_set;
@@ -8,36 +8,39 @@ use crate::layout::{
 };
 use crate::list_fault::ListLengthFault;
 use crate::register_list::{has_register_length, read_register};
-use arrayvec::ArrayVec;
 use byteorder::{BigEndian, ByteOrder};
-use permit_tables::{ListDefect, OutParams};
+use permit_tables::{Addresses, ListDefect, OutParams};
 use scsi_cdb::OutServiceAction;
 use scsi_nexus::{Nexus, TransportId};
+use std::alloc::{AllocError, Global};
 
 /// A PERSISTENT RESERVE OUT command from its service action, its byte of scope and type, its
 /// PARAMETER LIST LENGTH and the data sent with it, unless its length is wrong; what else is wrong
-/// stands in `defect` (SPC-4, "PERSISTENT RESERVE OUT parameter list").
+/// stands in `defect` (SPC-4, "PERSISTENT RESERVE OUT parameter list"). The addresses that a list of the right
+/// length names take memory.
 pub fn read_out(
+    alloc: Global,
     act: OutServiceAction,
     scope_type: u8,
     list_length: u32,
     bytes: &[u8],
-) -> Result<OutParams, ListLengthFault>
-    ensures { result ≡ decoded_list act scope_type list_length bytes.now }
+) -> Result<Result<OutParams, ListLengthFault>, AllocError>
+    ensures ok { IfOk result (λ it. it ≡ decoded_list act scope_type list_length bytes.now) }
+    ensures want { OnErr result (IsOk (decoded_list act scope_type list_length bytes.now)) }
 {
     if bytes.len() != list_length as usize || !has_format_length(act, bytes) {
-        return Err(ListLengthFault);
+        return Ok(Err(ListLengthFault));
     }
     match act {
-        OutServiceAction::RegisterAndMove => Ok(read_move(scope_type, bytes)),
+        OutServiceAction::RegisterAndMove => Ok(Ok(read_move(alloc, scope_type, bytes))),
         OutServiceAction::Register | OutServiceAction::RegisterAndIgnoreExistingKey => {
-            Ok(read_register(act, scope_type, bytes))
+            Ok(Ok(read_register(alloc, act, scope_type, bytes)?))
         }
         OutServiceAction::Reserve
         | OutServiceAction::Release
         | OutServiceAction::Clear
         | OutServiceAction::Preempt
-        | OutServiceAction::PreemptAndAbort => Ok(read_basic(act, scope_type, bytes)),
+        | OutServiceAction::PreemptAndAbort => Ok(Ok(read_basic(alloc, act, scope_type, bytes))),
     }
 }
 
@@ -69,7 +72,7 @@ fn has_move_length(bytes: &[u8]) -> bool
     bytes.len() - TRANSPORT_ID == transport_id_length as usize
 }
 
-fn read_basic(act: OutServiceAction, scope_type: u8, bytes: &[u8]) -> OutParams
+fn read_basic(alloc: Global, act: OutServiceAction, scope_type: u8, bytes: &[u8]) -> OutParams
     requires { 24 ≤ length bytes.now }
     ensures { result ≡ basic_params act scope_type bytes.now }
 {
@@ -83,11 +86,11 @@ fn read_basic(act: OutServiceAction, scope_type: u8, bytes: &[u8]) -> OutParams
         defect: None,
         all_ports: false,
         listed: false,
-        targets: ArrayVec::new(),
+        targets: Addresses::none(alloc),
     }
 }
 
-fn read_move(scope_type: u8, bytes: &[u8]) -> OutParams
+fn read_move(alloc: Global, scope_type: u8, bytes: &[u8]) -> OutParams
     requires { 24 ≤ length bytes.now }
     ensures { result ≡ move_params scope_type bytes.now }
 {
@@ -102,7 +105,7 @@ fn read_move(scope_type: u8, bytes: &[u8]) -> OutParams
         defect: defect_of_move(bytes[MOVE_FLAGS], dest),
         all_ports: false,
         listed: false,
-        targets: ArrayVec::new(),
+        targets: Addresses::none(alloc),
     }
 }
 

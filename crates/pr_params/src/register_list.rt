@@ -9,11 +9,11 @@ use crate::layout::{
     ALL_TG_PT, APTPL, BASIC_FLAGS, BASIC_LENGTH, LISTED_IDS, LISTED_LENGTH, LISTED_LENGTH_FIELD,
     RESERVATION_KEY, SERVICE_ACTION_RESERVATION_KEY, SPEC_I_PT,
 };
-use arrayvec::ArrayVec;
 use byteorder::{BigEndian, ByteOrder};
-use permit_tables::{ListDefect, OutParams, TARGETS};
+use permit_tables::{Addresses, ListDefect, OutParams};
 use scsi_cdb::OutServiceAction;
 use scsi_nexus::{TRANSPORT_ID_LENGTH, TransportId};
+use std::alloc::{AllocError, Global};
 
 /// Whether the bytes are as many as a list of either REGISTER says: 24, or with SPEC_I_PT 28 and
 /// the TRANSPORTID PARAMETER DATA LENGTH (SPC-4, "PERSISTENT RESERVE OUT parameter list").
@@ -34,14 +34,19 @@ pub(crate) fn has_register_length(bytes: &[u8]) -> bool
 }
 
 /// The command with a list of either REGISTER.
-pub(crate) fn read_register(act: OutServiceAction, scope_type: u8, bytes: &[u8]) -> OutParams
+pub(crate) fn read_register(
+    alloc: Global,
+    act: OutServiceAction,
+    scope_type: u8,
+    bytes: &[u8],
+) -> Result<OutParams, AllocError>
     requires { IsTrue (is_register_length bytes.now) }
-    ensures { result ≡ register_params act scope_type bytes.now }
+    ensures { IfOk result (λ params. params ≡ register_params act scope_type bytes.now) }
 {
     if is_set(bytes[BASIC_FLAGS], SPEC_I_PT) {
-        return read_listing(act, scope_type, bytes);
+        return read_listing(alloc, act, scope_type, bytes);
     }
-    OutParams {
+    Ok(OutParams {
         rk: BigEndian::read_u64(&bytes[RESERVATION_KEY..]),
         sark: BigEndian::read_u64(&bytes[SERVICE_ACTION_RESERVATION_KEY..]),
         dest: None,
@@ -55,21 +60,25 @@ pub(crate) fn read_register(act: OutServiceAction, scope_type: u8, bytes: &[u8])
         },
         all_ports: is_set(bytes[BASIC_FLAGS], ALL_TG_PT),
         listed: false,
-        targets: ArrayVec::new(),
-    }
+        targets: Addresses::none(alloc),
+    })
 }
 
-/// The same with SPEC_I_PT. The addresses that it names are large, so they stand in a function of their
-/// own.
-fn read_listing(act: OutServiceAction, scope_type: u8, bytes: &[u8]) -> OutParams
+/// The same with SPEC_I_PT.
+fn read_listing(
+    alloc: Global,
+    act: OutServiceAction,
+    scope_type: u8,
+    bytes: &[u8],
+) -> Result<OutParams, AllocError>
     requires { IsTrue (is_register_length bytes.now) }
-    ensures { result ≡ register_params act scope_type bytes.now }
+    ensures { IfOk result (λ params. params ≡ register_params act scope_type bytes.now) }
 {
-    let (targets, defect) = match named_addresses(act, bytes) {
+    let (targets, defect) = match named_addresses(alloc, act, bytes)? {
         Ok(targets) => (targets, None),
-        Err(fault) => (ArrayVec::new(), Some(fault)),
+        Err(fault) => (Addresses::none(alloc), Some(fault)),
     };
-    OutParams {
+    Ok(OutParams {
         rk: BigEndian::read_u64(&bytes[RESERVATION_KEY..]),
         sark: BigEndian::read_u64(&bytes[SERVICE_ACTION_RESERVATION_KEY..]),
         dest: None,
@@ -80,44 +89,46 @@ fn read_listing(act: OutServiceAction, scope_type: u8, bytes: &[u8]) -> OutParam
         all_ports: is_set(bytes[BASIC_FLAGS], ALL_TG_PT),
         listed: is_set(bytes[BASIC_FLAGS], SPEC_I_PT),
         targets,
-    }
+    })
 }
 
 /// The SAS addresses that a list of either REGISTER names, or its defect.
 fn named_addresses(
+    alloc: Global,
     act: OutServiceAction,
     bytes: &[u8],
-) -> Result<ArrayVec<u64, TARGETS>, ListDefect>
+) -> Result<Result<Addresses, ListDefect>, AllocError>
     requires { IsTrue (is_register_length bytes.now) }
-    ensures defect { MatchResult result (λ _. register_defect act bytes.now ≡ None) (λ fault. register_defect act bytes.now ≡ Some fault) }
-    ensures targets { IfOk result (λ targets. targets.items ≡ register_targets act bytes.now) }
+    ensures defect { IfOk result (λ it. MatchResult it (λ _. register_defect act bytes.now ≡ None) (λ fault. register_defect act bytes.now ≡ Some fault)) }
+    ensures targets { IfOk result (λ it. IfOk it (λ targets. targets.items ≡ register_targets act bytes.now)) }
 {
     let flags = bytes[BASIC_FLAGS];
     if is_set(flags, APTPL) {
-        Err(ListDefect::Field)
+        Ok(Err(ListDefect::Field))
     } else if is_set(flags, SPEC_I_PT) {
-        listed_addresses(act, bytes)
+        listed_addresses(alloc, act, bytes)
     } else {
-        Ok(ArrayVec::new())
+        Ok(Ok(Addresses::none(alloc)))
     }
 }
 
 /// The SAS addresses that SPEC_I_PT names behind its length field, or what is wrong with them.
 fn listed_addresses(
+    alloc: Global,
     act: OutServiceAction,
     bytes: &[u8],
-) -> Result<ArrayVec<u64, TARGETS>, ListDefect>
+) -> Result<Result<Addresses, ListDefect>, AllocError>
     requires { length bytes.now ≡ 28 + listed_length bytes.now }
-    ensures defect { MatchResult result (λ _. listed_defect act bytes.now ≡ None) (λ fault. listed_defect act bytes.now ≡ Some fault) }
-    ensures targets { IfOk result (λ targets. targets.items ≡ map sas_address (listed_ids bytes.now)) }
+    ensures defect { IfOk result (λ it. MatchResult it (λ _. listed_defect act bytes.now ≡ None) (λ fault. listed_defect act bytes.now ≡ Some fault)) }
+    ensures targets { IfOk result (λ it. IfOk it (λ targets. targets.items ≡ map sas_address (listed_ids bytes.now))) }
 {
     let ids = &bytes[LISTED_IDS..];
     if !may_list(act) || ids.len() % TRANSPORT_ID_LENGTH != 0 || ids.len() > LISTED_LENGTH {
-        return Err(ListDefect::Field);
+        return Ok(Err(ListDefect::Field));
     }
-    match addresses(ids) {
-        Some(targets) => Ok(targets),
-        None => Err(ListDefect::TransportId),
+    match addresses(alloc, ids)? {
+        Some(targets) => Ok(Ok(targets)),
+        None => Ok(Err(ListDefect::TransportId)),
     }
 }
 
@@ -138,21 +149,21 @@ fn may_list(act: OutServiceAction) -> bool
 }
 
 /// The addresses of whole TransportIDs, in their order, if each is a SAS one.
-fn addresses(bytes: &[u8]) -> Option<ArrayVec<u64, TARGETS>>
+fn addresses(alloc: Global, bytes: &[u8]) -> Result<Option<Addresses>, AllocError>
     requires whole { length bytes.now % 24 ≡ 0 }
     requires room { length bytes.now ≤ 24 * list_limit }
-    ensures all { is_some result ≡ list_all is_sas (ids (length bytes.now / 24) bytes.now) }
-    ensures addresses { IfSome result (λ targets. targets.items ≡ map sas_address (ids (length bytes.now / 24) bytes.now)) }
+    ensures all { IfOk result (λ made. is_some made ≡ list_all is_sas (ids (length bytes.now / 24) bytes.now)) }
+    ensures addresses { IfOk result (λ made. IfSome made (λ targets. targets.items ≡ map sas_address (ids (length bytes.now / 24) bytes.now))) }
 {
-    let mut targets = ArrayVec::new();
+    let mut targets = Addresses::with_room(alloc, bytes.len() / TRANSPORT_ID_LENGTH)?;
     let mut rest = bytes;
     while !rest.is_empty() {
         let (id, behind) = rest.split_at(TRANSPORT_ID_LENGTH);
         match TransportId::read(id) {
-            Ok(address) => targets.push(address),
-            Err(_) => return None,
+            Ok(address) => targets.push(address)?,
+            Err(_) => return Ok(None),
         }
         rest = behind;
     }
-    Some(targets)
+    Ok(Some(targets))
 }

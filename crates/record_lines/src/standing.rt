@@ -19,7 +19,7 @@ pub fn follow(reservations: &mut PrState, nobody: &mut Queues, entry: &Record)
     };
     match (&entry.act, entry.status) {
         (Act::ReserveOut(params), Status::Good) => {
-            carry_out(reservations, nobody, nexus, &params.open());
+            carry_out(reservations, nobody, nexus, params.params());
         }
         _ => {}
     }

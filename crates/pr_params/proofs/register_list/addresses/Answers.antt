@@ -9,12 +9,13 @@ loop-rest-preserved c =
     let so_far = c.loop-rest.invariant in
     let cut = c.split_at.ensures in
     let sas = c.in-Ok.ensures.address in
+    let pushed = c.in_ok-push-in-Ok.ensures.ok in
     record {
       whole = omega arith;
-      room = omega (arith, ap length c.push.ensures.items, length-append c.loop-rest.targets.items (c.in-Ok.address ∷ []));
+      room = omega (arith, ap length pushed, length-append c.loop-rest.targets.items (c.in-Ok.address ∷ []));
       all = so_far.all ∙ all-step _ _ _ long cut.front cut.back sas.0;
-      read = read-more _ _ _ _ _ _ _ long cut.front cut.back sas.1 c.push.ensures.items so_far.read;
+      read = read-more _ _ _ _ _ _ _ long cut.front cut.back sas.1 pushed so_far.read;
     }
 
 pub returns-in-Err-clause-all : goal.returns-in-Err-clause-all
-returns-in-Err-clause-all c = search (pieces, arith) depth 5 fits 300
+returns-in-Err-clause-all c = search (pieces, arith) depth 5 fits 2000

@@ -18,8 +18,8 @@ invariant_of-self-2 g c =
     (sym c.self.view_is) c.requires.profile in
     rw c.note-number.ensures.records
     (answered_stands c.self.inside.base c.self.inside.state c.judge.new.state c.self.inside.trail.records _ _ c.nexus-nexus.result
-    c.in_ok-decoded.decoded c.bytes.result.now _ c.in_ok-act.act c.in_ok-decision.decision c.in_ok-decision.reply c.self.invariant room of
-    plain c.in_ok-act.ensures.ok c.in_ok-decision.ensures.ok)
+    c.in_ok-decoded.decoded c.bytes.result.now _ c.act_of-act.result c.in_ok-decision.decision c.in_ok-decision.reply c.self.invariant room of
+    plain c.act_of-act.ensures c.in_ok-decision.ensures.ok)
 
 pub returns-clause-ok : goal.returns-clause-ok
 returns-clause-ok g c =
@@ -32,11 +32,11 @@ returns-clause-ok g c =
       room = c.self.inside.trail.room;
     }) _
     c.nexus-nexus.result c.args.received.now.nexus c.args.received.now.cdb c.bytes.result.now c.args.received.now.bytes
-    c.args.received.now.commands c.in_ok-decoded.decoded c.in_ok-act.act (
+    c.args.received.now.commands c.in_ok-decoded.decoded c.act_of-act.result (
       record { device = g.D.DeviceServer.shown c.judge.new.device.value; state = c.judge.new.state },
       c.in_ok-decision.decision,
       c.in_ok-decision.reply,
     ) _
-    c.self.view_is c.nexus-nexus.ensures c.bytes.ensures c.requires.kind c.in_ok-decoded.ensures.ok c.in_ok-act.ensures.ok
+    c.self.view_is c.nexus-nexus.ensures c.bytes.ensures c.requires.kind c.in_ok-decoded.ensures.ok c.act_of-act.ensures
     c.in_ok-decision.ensures.ok
     (search rules fits 100)

@@ -30,7 +30,7 @@ use Rattle.logical_unit.proofs.state.RecordedUnit.begin.Given as given
 use Rattle.logical_unit.proofs.state.RecordedUnit.begin.Goals as goal
 
 -- what judgement found, by the sender and the data as the command has them
-judged_so : (g : given.Over) (c : goal.Joined-decoded-5 g)
+judged_so : (g : given.Over) (c : goal.In-Left g)
     → judged_as (record {
       device = g.D.DeviceServer.shown c.args.device.now.value;
       state = after_contact c.self.inside.state
@@ -56,9 +56,9 @@ judged_so g c =
     c.in_ok-decoded.decoded c.bytes.result.now f) c.in-Left.is c.in_ok-found.ensures.ok)
 
 -- what judgement left, with nothing changed
-opened : (g : given.Over) (c : goal.Joined-decoded-5 g)
+opened : (g : given.Over) (c : goal.In-Left g)
     → Opens (g.D.DeviceServer.shown c.args.device.now.value) c.self.inside.state c.args.received.now.nexus c.args.received.now.cdb
-    c.args.received.now.bytes c.args.errand c.in_ok-act.act
+    c.args.received.now.bytes c.args.errand c.act_of-act.result
     (record { device = g.D.DeviceServer.shown c.judge_move.new.device.value; state = c.judge_move.new.state }) c.in-Left.decision
     (judged_as (record {
       device = g.D.DeviceServer.shown c.args.device.now.value;
@@ -69,17 +69,17 @@ opened : (g : given.Over) (c : goal.Joined-decoded-5 g)
 opened g c =
     let commands_are : c.args.received.now.commands ≡ commands_of (g.D.DeviceServer.shown c.args.device.now.value) = c.requires.kind in
     opens (g.D.DeviceServer.shown c.args.device.now.value) c.self.inside.state c.args.received.now.nexus c.args.received.now.cdb
-    c.args.received.now.bytes c.args.errand c.in_ok-decoded.decoded c.in_ok-act.act _ c.in-Left.decision (check InternalTargetFailure)
+    c.args.received.now.bytes c.args.errand c.in_ok-decoded.decoded c.act_of-act.result _ c.in-Left.decision (check InternalTargetFailure)
     c.requires.changer c.requires.errand (subst (λ (v : RecordedUnitView). has_room v.state c.args.received.now.nexus ≡ true)
     (sym c.self.view_is) c.requires.slot)
     (c.in_ok-decoded.ensures.ok ∙ ap (λ (k : CommandSet). decoded_command k c.args.received.now.cdb c.args.received.now.bytes) commands_are)
-    c.in_ok-act.ensures.ok (judged_so g c) refl
+    c.act_of-act.ensures (judged_so g c) refl
 
-asked_by : (g : given.Over) (c : goal.Joined-decoded-5 g) → c.in_ok-act.act ≡ act_of
+asked_by : (g : given.Over) (c : goal.In-Left g) → c.act_of-act.result ≡ act_of
     (commands_of (g.D.DeviceServer.shown c.args.device.now.value)) c.args.received.now.cdb c.args.received.now.bytes
 asked_by g c =
     let commands_are : c.args.received.now.commands ≡ commands_of (g.D.DeviceServer.shown c.args.device.now.value) = c.requires.kind in
-    c.in_ok-act.ensures.ok ∙ ap act_of_decoded (c.in_ok-decoded.ensures.ok ∙ ap (λ (k : CommandSet). decoded_command k c.args.received.now.cdb
+    c.act_of-act.ensures ∙ ap act_of_decoded (c.in_ok-decoded.ensures.ok ∙ ap (λ (k : CommandSet). decoded_command k c.args.received.now.cdb
     c.args.received.now.bytes) commands_are)
 
 pub invariant_of-self-in-Left : goal.invariant_of-self-in-Left
@@ -89,7 +89,7 @@ pub returns-in-Left-clause-begins : goal.returns-in-Left-clause-begins
 returns-in-Left-clause-begins g c =
     let o = opened g c in
     subst (λ (v : RecordedUnitView). IsLeft (unit_of (g.D.DeviceServer.shown c.args.device.now.value) v) c.args.received.now.nexus
-    c.args.received.now.cdb c.args.received.now.bytes c.args.errand c.in_ok-act.act c.in-Left.decision) c.self.view_is
+    c.args.received.now.cdb c.args.received.now.bytes c.args.errand c.act_of-act.result c.in-Left.decision) c.self.view_is
     (record { left = o.left; present = o.present; found = o.decision; asked = asked_by g c; awaits = o.awaits; ways = o.ways })
 
 pub returns-in-Left-clause-stays : goal.returns-in-Left-clause-stays
@@ -119,8 +119,8 @@ invariant_of-self-2 g c =
     c.in_ok-decoded.decoded c.bytes.result.now f) c.in-Ended.is c.in_ok-found.ensures.ok in
     rw c.note-number.ensures.records
     (answered_stands c.self.inside.base c.self.inside.state c.judge_move.new.state c.self.inside.trail.records _ _ c.nexus-nexus.result
-    c.in_ok-decoded.decoded c.bytes.result.now _ c.in_ok-act.act c.in-Ended.decision c.in-Ended.reply c.self.invariant room of plain
-    c.in_ok-act.ensures.ok found.1)
+    c.in_ok-decoded.decoded c.bytes.result.now _ c.act_of-act.result c.in-Ended.decision c.in-Ended.reply c.self.invariant room of plain
+    c.act_of-act.ensures found.1)
 
 pub returns-clause-begins : goal.returns-clause-begins
 returns-clause-begins g c =
@@ -147,7 +147,7 @@ returns-clause-begins g c =
           (ap (λ (t : Result Command Condition). judged_as (record { device = d; state = after_contact c.self.inside.state n }) n t bytes) (sym decoded_so)
           ∙ judged_so) ∙ found.0);
       answer = answered_alike d inside _ c.nexus-nexus.result n cdb c.bytes.result.now bytes c.args.received.now.commands c.in_ok-decoded.decoded
-          c.in_ok-act.act out _ c.self.view_is c.nexus-nexus.ensures c.bytes.ensures c.requires.kind c.in_ok-decoded.ensures.ok c.in_ok-act.ensures.ok
+          c.act_of-act.result out _ c.self.view_is c.nexus-nexus.ensures c.bytes.ensures c.requires.kind c.in_ok-decoded.ensures.ok c.act_of-act.ensures
           found.1 (search rules fits 100);
     }
 
