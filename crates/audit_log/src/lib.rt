@@ -9,9 +9,9 @@ mod record;
 mod stage;
 mod trail;
 
-pub use act::Act;
+pub use act::{Act, Asked};
 pub use laws::{line_rows, numbers_count_up, reservation_rows, trail_rows};
-pub use lines::{line, write_line, write_reservation};
+pub use lines::{add_line, line, status_text, write_reservation};
 pub use record::Record;
 pub use stage::Stage;
 pub use trail::Trail;

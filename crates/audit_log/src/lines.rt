@@ -1,11 +1,10 @@
-ghost use Rattle.std.specs.Prelude.{◌≡◌, ◌++◌, codes, IfOk, OnOk, OnErr, string_bytes};
+ghost use Rattle.std.specs.Prelude.{◌≡◌, ◌++◌, codes, IfOk, OnOk, string_bytes};
 ghost use Rattle.std.specs.Fmt.{decimal};
 ghost use Rattle.scsi_sense.specs.Status.{status_code};
 ghost use Rattle.audit_log.specs.Hexadecimal.{two_digits};
 ghost use Rattle.audit_log.specs.Stages.{stage_number};
 ghost use Rattle.audit_log.specs.Lines.{line_of, asked_text, judged_text, sender_text, cell_text_or_dash, rule_text, act_text, reservation_text};
 
-use crate::act::Act;
 use crate::record::Record;
 use crate::stage::Stage;
 use itoa::Buffer;
@@ -26,22 +25,13 @@ pub fn line(alloc: Global, entry: &Record) -> Result<String, AllocError>
     ensures { IfOk result (λ text. string_bytes text ≡ line_of entry.now) }
 {
     let mut text = String::with_capacity(alloc, ROOM)?;
-    write_parts(&mut text, entry)?;
+    add_line(&mut text, entry)?;
     Ok(text)
 }
 
-/// Adds a record's `line` to a text. Want of memory leaves the text as it was.
-pub fn write_line(alloc: Global, text: &mut String, entry: &Record) -> Result<(), AllocError>
-    ensures ok { OnOk result (string_bytes text.new ≡ string_bytes text.old ++ line_of entry.now) }
-    ensures err { OnErr result (string_bytes text.new ≡ string_bytes text.old) }
-{
-    let whole = line(alloc, entry)?;
-    text.push_str(whole.as_str())
-}
-
-/// The parts of a line, one after another. Where memory runs out, some may have been added.
+/// Adds a record's `line` to a text, without room of its own. Where memory runs out, some of it may have been added.
 #[tactic(auto, unfolding(crate::specs::Lines::line_of))]
-fn write_parts(text: &mut String, entry: &Record) -> Result<(), AllocError>
+pub fn add_line(text: &mut String, entry: &Record) -> Result<(), AllocError>
     ensures { OnOk result (string_bytes text.new ≡ string_bytes text.old ++ line_of entry.now) }
 {
     write_asked(text, entry)?;
@@ -56,7 +46,7 @@ fn write_asked(text: &mut String, entry: &Record) -> Result<(), AllocError>
     text.push_str(" ")?;
     write_nexus(text, entry.nexus)?;
     text.push_str(" ")?;
-    text.push_str(act_text(&entry.act))
+    text.push_str(entry.act.asked().text())
 }
 
 /// The stage, the cell, the rule and the status, each after a space.
@@ -67,6 +57,7 @@ fn write_judged(text: &mut String, entry: &Record) -> Result<(), AllocError>
     write_cell(text, entry.cell)?;
     text.push_str(" ")?;
     text.push_str(rule_text(entry.rule))?;
+    text.push_str(" ")?;
     text.push_str(status_text(entry.status))
 }
 
@@ -85,15 +76,15 @@ fn stage_text(stage: Stage) -> &'static str
     }
 }
 
-/// A space and the status code in two hexadecimal digits.
-fn status_text(status: Status) -> &'static str
-    ensures { result.now ≡ codes " " ++ two_digits (status_code status) }
+/// The status code in two hexadecimal digits.
+pub fn status_text(status: Status) -> &'static str
+    ensures { result.now ≡ two_digits (status_code status) }
 {
     match status {
-        Status::Good => " 00",
-        Status::CheckCondition => " 02",
-        Status::Busy => " 08",
-        Status::ReservationConflict => " 18",
+        Status::Good => "00",
+        Status::CheckCondition => "02",
+        Status::Busy => "08",
+        Status::ReservationConflict => "18",
     }
 }
 
@@ -132,22 +123,13 @@ fn write_cell(text: &mut String, cell: Option<Cell>) -> Result<(), AllocError>
 {
     match cell {
         None => text.push_str("-"),
-        Some(cell) => write!(text, "{cell}"),
-    }
-}
-
-/// What was asked: the name of the command's class, or of what isn't a command.
-fn act_text(act: &Act) -> &'static str
-    ensures { result.now ≡ act_text act.now }
-{
-    match act {
-        Act::Command(class) => class_text(*class),
-        Act::ReserveOut(params) => class_text(params.act().class()),
-        Act::Invalid => "INVALID",
-        Act::Loss => "LOSS",
-        Act::Reset => "RESET",
-        Act::MediumIn => "MEDIUM-IN",
-        Act::MediumOut => "MEDIUM-OUT",
+        Some(cell) => {
+            text.push_str(class_text(cell.class))?;
+            text.push_str("/")?;
+            text.push_str(cell.res_type.text())?;
+            text.push_str("/")?;
+            text.push_str(cell.role.text())
+        }
     }
 }
 

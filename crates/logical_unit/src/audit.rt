@@ -3,7 +3,7 @@ ghost use Rattle.judgement.specs.History.{after_history};
 ghost use Rattle.logical_unit.specs.Audit.{span_line, span_lines, IsReplayable, AreReplayable};
 ghost use Rattle.logical_unit.specs.Legal.{accepted_in};
 
-use audit_log::{Act, Record, write_line, write_reservation};
+use audit_log::{Act, Record, line, write_reservation};
 use pr_core::PrState;
 use scsi_sense::Status;
 use std::alloc::{AllocError, Global};
@@ -50,8 +50,7 @@ fn next_line(
 fn span_line(alloc: Global, reservations: &PrState, entry: &Record) -> Result<String, AllocError>
     ensures { IfOk result (λ text. string_bytes text ≡ span_line reservations.now entry.now) }
 {
-    let mut text = String::new(alloc);
-    write_line(alloc, &mut text, entry)?;
+    let mut text = line(alloc, entry)?;
     text.push(' ')?;
     write_reservation(&mut text, reservations.reservation())?;
     Ok(text)

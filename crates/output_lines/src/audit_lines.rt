@@ -2,7 +2,7 @@ ghost use Rattle.std.specs.Prelude.{◌≡◌, ◌++◌, map, IfOk, OnOk, string
 ghost use Rattle.logical_unit.specs.UnitView.{units_of};
 ghost use Rattle.output_lines.specs.AuditLines.{audit_line, audit_text, lines_of_records, lines_of_units, spans_of_units, text_of_lines};
 
-use audit_log::{Record, write_line};
+use audit_log::{Record, add_line};
 use device_server::DeviceServer;
 use logical_unit::LogicalUnit;
 use std::alloc::{AllocError, Global};
@@ -31,7 +31,7 @@ pub fn audit_text<D: DeviceServer>(
     let mut text = String::new(alloc);
     match audit {
         Audit::Off => {}
-        Audit::Lines => write_units(alloc, &mut text, units)?,
+        Audit::Lines => write_units(&mut text, units)?,
         Audit::Spans => write_spans(alloc, &mut text, units)?,
     }
     Ok(text)
@@ -42,39 +42,38 @@ pub fn records_text(alloc: Global, entries: &[Record]) -> Result<String, AllocEr
     ensures { IfOk result (λ text. string_bytes text ≡ lines_of_records entries.now) }
 {
     let mut text = String::new(alloc);
-    write_records(alloc, &mut text, entries)?;
+    write_records(&mut text, entries)?;
     Ok(text)
 }
 
 /// Adds the lines of each unit's records.
 fn write_units<D: DeviceServer>(
-    alloc: Global,
     text: &mut String,
     units: &[LogicalUnit<D>],
 ) -> Result<(), AllocError>
     ensures { OnOk result (string_bytes text.new ≡ string_bytes text.old ++ lines_of_units (units_of units.now)) }
 {
     for unit in units {
-        write_records(alloc, text, unit.records())?;
+        write_records(text, unit.records())?;
     }
     Ok(())
 }
 
 /// Adds the lines of records.
-fn write_records(alloc: Global, text: &mut String, entries: &[Record]) -> Result<(), AllocError>
+fn write_records(text: &mut String, entries: &[Record]) -> Result<(), AllocError>
     ensures { OnOk result (string_bytes text.new ≡ string_bytes text.old ++ lines_of_records entries.now) }
 {
     for entry in entries {
-        write_record(alloc, text, entry)?;
+        write_record(text, entry)?;
     }
     Ok(())
 }
 
 /// Adds the line of a record, with its line feed.
-fn write_record(alloc: Global, text: &mut String, entry: &Record) -> Result<(), AllocError>
+fn write_record(text: &mut String, entry: &Record) -> Result<(), AllocError>
     ensures { OnOk result (string_bytes text.new ≡ string_bytes text.old ++ audit_line entry.now) }
 {
-    write_line(alloc, text, entry)?;
+    add_line(text, entry)?;
     text.push('\n')
 }
 

@@ -2,24 +2,12 @@
 use Rattle.std.specs.Prelude.{ℕ, List, Option}
 use Rattle.std.specs.List.{position}
 use Rattle.scsi_sense.specs.Status.{status_code}
+use Rattle.audit_log.specs.Acts.{act_of}
 use Rattle.audit_log.specs.Hexadecimal.{two_digits}
 use Rattle.audit_log.specs.Lines.{act_text}
-use Rattle.audit_log.specs.declared.act.Act.{Act}
-use Rattle.audit_log.specs.declared.act.Act.TheVariants as act
 use Rattle.record_lines.specs.Counts.{Count, Kind, role_word, same_kind, type_word}
 use Rattle.record_lines.specs.declared.counts.RecordCount.{RecordCount}
-use Rattle.record_lines.specs.declared.kind.Asked.{Asked}
-use Rattle.record_lines.specs.declared.kind.Asked.TheVariants.{Command, Invalid, Loss, Reset, MediumIn, MediumOut}
 use Rattle.record_lines.specs.declared.kind.RecordKind.{RecordKind}
-
--- what was asked; a command as if it had no parameter list
-abbrev pub act_of : Asked → Act
-act_of (Command class) = act.Command class
-act_of Invalid = act.Invalid
-act_of Loss = act.Loss
-act_of Reset = act.Reset
-act_of MediumIn = act.MediumIn
-act_of MediumOut = act.MediumOut
 
 abbrev pub kind_seen : RecordKind → Kind
 kind_seen k = record { class = act_text (act_of k.asked); res_type = type_word k.cell; role = role_word k.cell; status = two_digits (status_code k.status) }

@@ -1,59 +1,10 @@
 ghost use Rattle.std.specs.Prelude.{◌≡◌};
-ghost use Rattle.audit_log.specs.Lines.{act_text};
 ghost use Rattle.record_lines.specs.Counts.{kind_of, role_word, same_kind, type_word};
-ghost use Rattle.record_lines.specs.CountsSeen.{act_of, kind_seen};
+ghost use Rattle.record_lines.specs.CountsSeen.{kind_seen};
 
-use crate::words::status_text;
-use audit_log::{Act, Record};
-use permit_tables::{Cell, class_text};
-use scsi_cdb::Class;
+use audit_log::{Asked, Record, status_text};
+use permit_tables::Cell;
 use scsi_sense::Status;
-
-/// What a record says was asked, without the parameter list.
-#[derive(Clone, Copy)]
-pub enum Asked {
-    Command(Class),
-    /// Bytes that decode to no command of the unit, or a parameter list of a wrong length.
-    Invalid,
-    /// An I_T nexus loss.
-    Loss,
-    /// A reset of the unit.
-    Reset,
-    /// A volume came in.
-    MediumIn,
-    /// A volume was taken out.
-    MediumOut,
-}
-
-impl Asked {
-    pub(crate) fn of(act: &Act) -> Asked
-        ensures { act_text (act_of result) ≡ act_text act.now }
-    {
-        match act {
-            Act::Command(class) => Asked::Command(*class),
-            Act::ReserveOut(params) => Asked::Command(params.act().class()),
-            Act::Invalid => Asked::Invalid,
-            Act::Loss => Asked::Loss,
-            Act::Reset => Asked::Reset,
-            Act::MediumIn => Asked::MediumIn,
-            Act::MediumOut => Asked::MediumOut,
-        }
-    }
-
-    /// The name of the command's class, or of what isn't a command.
-    pub fn text(self) -> &'static str
-        ensures { result.now ≡ act_text (act_of self) }
-    {
-        match self {
-            Asked::Command(class) => class_text(class),
-            Asked::Invalid => "INVALID",
-            Asked::Loss => "LOSS",
-            Asked::Reset => "RESET",
-            Asked::MediumIn => "MEDIUM-IN",
-            Asked::MediumOut => "MEDIUM-OUT",
-        }
-    }
-}
 
 /// What records say that are counted together if the words of their lines are the same.
 #[derive(Clone, Copy)]
@@ -70,7 +21,7 @@ impl RecordKind {
         ensures { kind_seen result ≡ kind_of entry.now }
     {
         RecordKind {
-            asked: Asked::of(&entry.act),
+            asked: entry.act.asked(),
             cell: entry.cell,
             status: entry.status,
         }

@@ -16,7 +16,7 @@ mod words;
 
 pub use counts::{RecordCount, RecordCounts};
 pub use host_name::HostName;
-pub use kind::{Asked, RecordKind};
+pub use kind::RecordKind;
 pub use laws::{counts_add_up, follows_trails, worked_rows};
 pub use line::{TakenRecord, write_line};
 pub use lines::{LineContext, records_text};

@@ -7,9 +7,8 @@ ghost use Rattle.permit_tables.specs.Text.{cell_text};
 ghost use Rattle.record_lines.specs.Lines.{answered_text, asked_text, held_in, judged_text, line_of, rule_name, taken_text, value};
 
 use crate::field::{Field, absent, line_end, mark};
-use crate::kind::Asked;
-use crate::words::{rule_name, status_text};
-use audit_log::{Record, write_reservation};
+use crate::words::rule_name;
+use audit_log::{Record, status_text, write_reservation};
 use itoa::Buffer;
 use permit_tables::{Cell, KeyRule, ResType};
 use program_options::RecordFormat;
@@ -80,7 +79,7 @@ fn write_asked(
     text.push_str(Field::Name.lead(format))?;
     write_word_if(text, format, taken.name)?;
     text.push_str(Field::Class.lead(format))?;
-    write_word(text, format, Asked::of(&taken.record.act).text())
+    write_word(text, format, taken.record.act.asked().text())
 }
 
 /// The stage, the cell and the rule.
