@@ -1,7 +1,8 @@
 -- Hexadecimal digits block by block.
 use Rattle.std.proofs.Common.{◌≡◌, ℕ, zero, suc, ◌+◌, ◌-◌, ◌*◌, ◌/◌, ◌%◌, ◌<◌, ◌≤◌, List, [], ◌∷◌, ◌++◌, length, take, drop, replicate, get_or, map, Option, Some, None, Result, Ok, Err, refl, sym, ap, ◌∙◌, append_assoc, arith}
-use Rattle.std.proofs.lemmas.List.{get_or-map, get_or_append_left, length-append, take_at}
-use Rattle.std.proofs.lemmas.Simd.{length-replicate}
+use Rattle.std.proofs.lemmas.List.{drop_more, get_or-map, get_or_append_left, length-append, take_at}
+use Rattle.std.proofs.lemmas.Simd.{Each1-all, Each1-zip2, Each2-splat, get_or-replicate, get_or-zip2, get_or_narrower, get_or_wider, length-replicate}
+use lib.Lanes.{Each1, digits_l, number_l, zip2}
 use Rattle.hex.specs.Hex.{decode_of, decode_pairs, digit_or_error, hex_digit_value, ◌>>=◌}
 use Rattle.hex.specs.declared.error.FromHexError.{FromHexError}
 use Rattle.hex.proofs.HexLemmas.{decode_of-even, decode_of-ok}
@@ -152,13 +153,45 @@ evens_at i zero k lt = absurd (omega arith)
 evens_at i (suc n) zero lt = omega arith
 evens_at i (suc n) (suc k) lt = evens_at (2 + i) n k (omega arith) ∙ omega arith
 
--- the byte of two lanes beside each other, picked from a vector twice
-pub byte_of_lanes : (v : List ℕ) → length v ≡ 64 → ((k : ℕ) → get_or v k 0 < 16) → (k : ℕ) → k < 32
-    → get_or (map (λ p. (get_or (v ++ v) p 0 * 16 % 256 + get_or (v ++ v) (p + 1) 0) % 256) (evens 0 32)) k 0 ≡ get_or v (2 * k) 0 * 16 + get_or v (2 * k + 1) 0
-byte_of_lanes v long small k lt =
-    let byte = λ (p : ℕ). (get_or (v ++ v) p 0 * 16 % 256 + get_or (v ++ v) (p + 1) 0) % 256 in
-    let high : get_or (v ++ v) (2 * k) 0 ≡ get_or v (2 * k) 0 = get_or_append_left v v 0 (2 * k) (omega arith) in
-    let low : get_or (v ++ v) (2 * k + 1) 0 ≡ get_or v (2 * k + 1) 0 = get_or_append_left v v 0 (2 * k + 1) (omega arith) in
-    let place : get_or (evens 0 32) k 0 ≡ 2 * k = evens_at 0 32 k lt ∙ omega arith in
-    get_or-map byte (evens 0 32) k 0 0 (omega (arith, length-evens 0 32)) ∙ ap byte place
-    ∙ (λ i. (high i * 16 % 256 + low i) % 256) ∙ omega (arith, small (2 * k), small (2 * k + 1))
+-- how many digits are taken
+length_digits : (q n x : ℕ) → length (digits_l q n x) ≡ n
+length_digits q zero x = refl
+length_digits q (suc n) x = ap suc (length_digits q n (x / q))
+
+-- lanes of bytes as pairs, each times 1001h
+abbrev pub pairs_times : List ℕ → List ℕ
+pairs_times v = zip2 (λ a b. a * b % 65536) (digits_l 65536 32 (number_l 256 v)) (replicate 32 4097)
+
+pair_at : (v : List ℕ) → length v ≡ 64 → Each1 (λ x. x < 256) v → (k : ℕ) → k < 32
+    → get_or (digits_l 65536 32 (number_l 256 v)) k 0 ≡ get_or v (2 * k) 0 + 256 * get_or v (2 * k + 1) 0
+pair_at v long fits k lt =
+    let high = get_or v (2 * k) 0 in
+    let low = get_or v (2 * k + 1) 0 in
+    let two : take 2 (drop (2 * k) v) ≡ high ∷ low ∷ [] =
+    ap (take 2) (drop_more v (2 * k) 0 (omega arith) ∙ ap (λ (l : List ℕ). high ∷ l) (drop_more v (2 * k + 1) 0 (omega arith))) in
+    get_or_wider 256 2 65536 32 v k refl fits lt ∙ ap (number_l 256) two ∙ omega arith
+
+times_at : (v : List ℕ) (k : ℕ) → k < 32 → get_or (pairs_times v) k 0 ≡ get_or (digits_l 65536 32 (number_l 256 v)) k 0 * 4097 % 65536
+times_at v k lt =
+    let pairs = digits_l 65536 32 (number_l 256 v) in
+    get_or-zip2 (λ a b. a * b % 65536) pairs (replicate 32 4097) k 0 0 0 (omega (arith, length_digits 65536 32 (number_l 256 v))) lt
+    ∙ ap (λ n. get_or pairs k 0 * n % 65536) (get_or-replicate 32 k 4097 0 lt)
+
+-- the byte of two lanes beside each other
+pub byte_of_lanes : (v : List ℕ) → length v ≡ 64 → Each1 (λ x. x < 256) v → ((k : ℕ) → get_or v k 0 < 16) → (k : ℕ) → k < 32
+    → (w : List ℕ) → w ≡ digits_l 256 64 (number_l 65536 (pairs_times v)) → get_or (map (λ p. get_or (w ++ w) p 0) (evens 1 32)) k 0 ≡ get_or v (2 * k) 0 * 16 + get_or v (2 * k + 1) 0
+byte_of_lanes v long fits small k lt w is =
+    let high = get_or v (2 * k) 0 in
+    let low = get_or v (2 * k + 1) 0 in
+    let words = pairs_times v in
+    let width : length w ≡ 64 = ap length is ∙ length_digits 256 64 (number_l 65536 words) in
+    let below : Each1 (λ x. x < 65536) words =
+    Each1-zip2 (λ a b. a * b % 65536) (λ x. x < 65536) (digits_l 65536 32 (number_l 256 v)) (replicate 32 4097)
+    (Each2-splat (λ a b. a * b % 65536 < 65536) (digits_l 65536 32 (number_l 256 v)) 32 4097 (Each1-all (λ a. a * 4097 % 65536 < 65536) (λ a. omega arith) (digits_l 65536 32 (number_l 256 v)))) in
+    let word : get_or words k 0 ≡ high * 4097 + low * 256 =
+    times_at v k lt ∙ ap (λ n. n * 4097 % 65536) (pair_at v long fits k lt) ∙ omega (arith, small (2 * k), small (2 * k + 1)) in
+    let byte : get_or w (2 * k + 1) 0 ≡ get_or words k 0 / 256 % 256 =
+    ap (λ (l : List ℕ). get_or l (2 * k + 1) 0) is ∙ get_or_narrower 65536 2 256 64 words k 1 refl below (omega arith) (omega arith) in
+    let place : get_or (evens 1 32) k 0 ≡ 2 * k + 1 = evens_at 1 32 k lt ∙ omega arith in
+    get_or-map (λ p. get_or (w ++ w) p 0) (evens 1 32) k 0 0 (omega (arith, length-evens 1 32)) ∙ ap (λ p. get_or (w ++ w) p 0) place
+    ∙ get_or_append_left w w 0 (2 * k + 1) (omega arith) ∙ byte ∙ ap (λ n. n / 256 % 256) word ∙ omega (arith, small (2 * k), small (2 * k + 1))

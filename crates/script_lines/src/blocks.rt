@@ -33,9 +33,12 @@ fn values_of(lanes: u8x64) -> u8x64
     ensures values { list_all is_hex_digit lanes ≡ true → result ≡ map digit_value lanes }
     ensures others { list_all is_small result ≡ list_all is_hex_digit lanes }
 {
-    let numbers = lanes - u8x64::splat(b'0');
+    // F6h to FFh for the digits 0 to 9. All others are less: with 6 and then F0h taken off they are 16 or more.
+    let moved = lanes + u8x64::splat(0xFF - b'9');
+    let numbers = moved.saturating_sub(u8x64::splat(6)) - u8x64::splat(0xF0);
     let letters = ((lanes - u8x64::splat(b'A')) & u8x64::splat(CAPITAL)) + u8x64::splat(10);
-    numbers.simd_lt(u8x64::splat(10)).select(numbers, letters)
+    // The lesser is below 16 for hexadecimal digits alone.
+    numbers.simd_lt(letters).select(numbers, letters)
 }
 
 /// Whether all have four bits.
@@ -43,7 +46,10 @@ fn values_of(lanes: u8x64) -> u8x64
 fn are_small(values: u8x64) -> bool
     ensures { result ≡ list_all is_small values }
 {
-    values.simd_lt(u8x64::splat(16)).all()
+    // A bit above the fourth stays set in both steps, and a test of 16 lanes is a third of one of 64.
+    let halves = values.extract::<0, 32>() | values.extract::<32, 32>();
+    let quarters = halves.extract::<0, 16>() | halves.extract::<16, 16>();
+    quarters.simd_lt(u8x16::splat(16)).all()
 }
 
 /// The bytes of pairs of values.
@@ -52,13 +58,11 @@ fn bytes_of(values: u8x64) -> [u8; 32]
     requires { (k : ℕ) → slice_index values k < 16 }
     ensures { (k : ℕ) → k < 32 → slice_index result k ≡ slice_index values (2 * k) * 16 + slice_index values (2 * k + 1) }
 {
-    let high: u8x32 = values.swizzle([
-        0, 2, 4, 6, 8, 10, 12, 14, 16, 18, 20, 22, 24, 26, 28, 30, 32, 34, 36, 38, 40, 42, 44, 46,
-        48, 50, 52, 54, 56, 58, 60, 62,
-    ]);
-    let low: u8x32 = values.swizzle([
+    // The first value of a pair is its low half. 1001h times the pair has the byte in the high half.
+    let pairs = u16x32::from_le_bytes(values) * u16x32::splat(0x1001);
+    let bytes: u8x32 = pairs.to_le_bytes().swizzle([
         1, 3, 5, 7, 9, 11, 13, 15, 17, 19, 21, 23, 25, 27, 29, 31, 33, 35, 37, 39, 41, 43, 45, 47,
         49, 51, 53, 55, 57, 59, 61, 63,
     ]);
-    (high * u8x32::splat(16) + low).to_array()
+    bytes.to_array()
 }
