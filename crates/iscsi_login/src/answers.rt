@@ -33,7 +33,7 @@ pub(crate) fn write_answers(
     write_offers(out, admitted.negotiation, text)
 }
 
-/// Adds the portal group, which is told whoever names the target, for discovery too (RFC 7143, "TargetPortalGroupTag").
+/// Adds the portal group, which each initiator is told that names the target, for discovery too (RFC 7143, "TargetPortalGroupTag").
 fn write_group_tag(
     out: &mut Vec<u8>,
     portal_group: u16,

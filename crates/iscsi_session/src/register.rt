@@ -42,7 +42,7 @@ pub trait SessionRegister {
     ghost use Rattle.tickets.specs.declared.ticket.Outcome.{Outcome};
     ghost use Rattle.tickets.specs.declared.ticket.ReplyTicket.{ReplyTicket};
 
-    // That another session of a nexus goes on, as far as whoever keeps the register says what that means.
+    // That another session of a nexus goes on, as far as the implementation of the register says what that means.
     ghost others: { Self → Nexus → Type 0 } = { λ _ _. Unit {0} };
 
     // That another session has reset a unit, in the same way.

@@ -33,7 +33,7 @@ const NUMBERS: u64 = 0x1_0000_0000;
 const AHEAD: u64 = NUMBERS + WINDOW as u64 - 1;
 
 /// The tasks of a session in full feature, and the numbers by which commands are ordered. It takes PDUs and says what is to be
-/// done next; whoever calls it reads, executes and answers.
+/// done next; its caller reads, executes and answers.
 #[derive(Drop)]
 pub struct Tasks {
     parameters: SessionParameters,

@@ -1,6 +1,6 @@
 use std::sync::atomic::{AtomicU64, Ordering};
 
-/// How often each unit was reset, by LUN, as far as it is known to whoever has these counts.
+/// How often each unit was reset, by LUN, as far as the thread knows that has these counts.
 #[derive(Drop)]
 pub struct ResetCounts {
     zero: AtomicU64,

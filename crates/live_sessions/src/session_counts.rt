@@ -1,8 +1,8 @@
 use scsi_nexus::Nexus;
 use std::sync::atomic::{AtomicBool, AtomicU16, AtomicU64, Ordering};
 
-/// Of whom a session is, how many commands came in it, and how many bytes each way. Its own thread notes that, and whoever reports it
-/// looks, without a lock: so what it sees may be of different moments.
+/// Of whom a session is, how many commands came in it, and how many bytes each way. Its own thread notes that, and the thread that reports
+/// it looks, without a lock: so what it sees may be of different moments.
 #[derive(Drop)]
 pub struct SessionCounts {
     /// Set once the nexus is there.

@@ -53,7 +53,7 @@ impl SessionFlags {
         &self.counts
     }
 
-    /// The same, shared with whoever reports it.
+    /// The same, shared with the thread that reports it.
     pub fn shared_counts(&self) -> Result<Arc<SessionCounts, Global>, AllocError> {
         Arc::try_clone(&self.counts)
     }
