@@ -27,9 +27,9 @@ def nowhere(tried: Tried) -> None:
 
 def left(tried: Tried) -> None:
     path = tried.path("socket")
-    with socket.socket(socket.AF_UNIX, socket.SOCK_STREAM) as listener:
-        listener.bind(path)
-        listener.listen()
+    # It never listens: a process that another row starts has this socket too until it becomes its program.
+    with socket.socket(socket.AF_UNIX, socket.SOCK_STREAM) as left_over:
+        left_over.bind(path)
     with Server(tried, "--sessions", "1") as server:
         server.connect().close()
         server.ends()
