@@ -105,6 +105,8 @@ say "a takeover: a second host preempts the first one, and writes on"
 sed -i 's/^# metrics/metrics/' /etc/vtl/vtl.toml
 systemctl restart vtl.service
 log_in 127.0.0.1:3260
+unload_tape 1
+mtx -f "$changer" load 2 0
 log_in_second
 holder=$(first_drives | head -1)
 taker=$(first_drives | tail -1)
@@ -132,6 +134,9 @@ grep -q '^vtl_records_total{class="WRITE(6)",.*status="18"} 2$' /root/metrics
 grep -q '^vtl_reserved{unit="1"} 1$' /root/metrics
 sg_persist --out --release --param-rk=b2 --prout-type=3 "$taker"
 sg_persist --out --register --param-rk=b2 --param-sark=0 "$taker"
+for _ in 1 2 3; do sg_turs "$holder" >/dev/null 2>&1 || true; done
+unload_tape 2
+mtx -f "$changer" load 1 0
 log_out
 
 say "an upgrade"
