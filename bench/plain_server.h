@@ -10,7 +10,7 @@
 #include <time.h>
 #include <unistd.h>
 
-enum { BLOCK = 65536, HEADER = 48, ROUND = 200 };
+enum { BLOCK = 65536, MOST_BLOCK = 1 << 20, HEADER = 48, ROUND = 200 };
 
 static void fail(const char *what)
 {
@@ -45,7 +45,7 @@ static void *answer_plainly(void *given)
 {
     int socket_of = *(int *)given;
     uint32_t sizes[2];
-    uint8_t *bytes = calloc(1, BLOCK + HEADER);
+    uint8_t *bytes = calloc(1, MOST_BLOCK + HEADER);
     free(given);
     while (receive_all(socket_of, (uint8_t *)sizes, sizeof sizes)) {
         for (int turn = 0; turn < ROUND; turn++) {

@@ -1,8 +1,10 @@
 /* Round trips at `vtl serve` and, beside them, of a plain server that reads as many bytes and answers as many.
  *
- * round_trips VTL_SOCKET PLAIN_SOCKET [threads]: four drives with a volume each are asked at VTL_SOCKET; the plain server is started here.
- * With `threads` it tells what connections gain beside each other: one, two and four, each at a drive of its own, all at one drive,
- * and at the plain server; and beside them what threads gain that only count.
+ * round_trips VTL_SOCKET PLAIN_SOCKET [threads | plots DIRECTORY]: four drives with a volume each are asked at VTL_SOCKET; the plain server
+ * is started here. With `threads` it tells what connections gain beside each other: one, two and four, each at a drive of its own, all at
+ * one drive, and at the plain server; and beside them what threads gain that only count. With `plots` it writes what is drawn into files:
+ * `connections` has how many there are, and the TEST UNIT READYs a second of both servers; `blocks` has bytes a block, and the MiB a
+ * second of WRITE(6) and of READ(6), of both. Blocks go up to 1 MiB, so the library has to be one for hosts.
  */
 #include "plain_server.h"
 #include <signal.h>
@@ -38,6 +40,7 @@ struct host {
     enum kind kind;
     int rounds;
     int is_plain;
+    uint32_t block;
 };
 
 static size_t frame(uint8_t *out, int lun, const uint8_t *cdb, int cdb_length, size_t data)
@@ -59,16 +62,23 @@ static int ask(int socket_of, uint8_t *out, size_t length, uint8_t *in)
     return in[1];
 }
 
-static const uint8_t CDBS[3][6] = {{0}, {0x0a, 0, 1, 0, 0, 0}, {0x08, 0, 1, 0, 0, 0}};
+static const uint8_t CODES[3] = {0x00, 0x0a, 0x08};
+
+/* A command of six bytes that transfers a block, or none for TEST UNIT READY. */
+static size_t frame_of(uint8_t *out, int lun, enum kind kind, uint32_t block)
+{
+    uint32_t asked = kind == READY ? 0 : block;
+    uint8_t cdb[6] = {CODES[kind], 0, (uint8_t)(asked >> 16), (uint8_t)(asked >> 8), (uint8_t)asked, 0};
+    return frame(out, lun, cdb, 6, kind == WRITE ? block : 0);
+}
 
 static void *play(void *given)
 {
     struct host *host = given;
-    uint8_t *out = calloc(1, BLOCK + 64), *in = calloc(1, BLOCK + 64), rewind_to[16];
-    size_t data = host->kind == WRITE ? BLOCK : 0;
-    size_t length = frame(out, host->lun, CDBS[host->kind], 6, data);
+    uint8_t *out = calloc(1, host->block + 64), *in = calloc(1, host->block + 64), rewind_to[16];
+    size_t length = frame_of(out, host->lun, host->kind, host->block);
     size_t rewinding = frame(rewind_to, host->lun, (const uint8_t[6]){1}, 6, 0);
-    uint32_t sizes[2] = {(uint32_t)length, (uint32_t)(HEAD + (host->kind == READ ? BLOCK : 0))};
+    uint32_t sizes[2] = {(uint32_t)length, (uint32_t)(HEAD + (host->kind == READ ? host->block : 0))};
     for (int round = 0; round < host->rounds; round++) {
         if (host->is_plain)
             send_bytes(host->socket, (uint8_t *)sizes, sizeof sizes);
@@ -97,8 +107,8 @@ static void prepare(int socket_of, int place)
     send_bytes(socket_of, login, sizeof login);
     if (!receive_all(socket_of, in, 6) || in[5] != 0) fail("LOGIN");
     for (int turn = 0; turn < 2; turn++) ask(socket_of, out, frame(out, 0, move, 12, 0), in);
-    for (int turn = 0; turn < 3; turn++) ask(socket_of, out, frame(out, 1, CDBS[READY], 6, 0), in);
-    for (int turn = 0; turn < 3; turn++) ask(socket_of, out, frame(out, place + 1, CDBS[READY], 6, 0), in);
+    for (int turn = 0; turn < 3; turn++) ask(socket_of, out, frame_of(out, 1, READY, 0), in);
+    for (int turn = 0; turn < 3; turn++) ask(socket_of, out, frame_of(out, place + 1, READY, 0), in);
     if (in[1] != 0) fail("drive");
 }
 
@@ -107,7 +117,7 @@ static void fill(int socket_of)
 {
     uint8_t *out = calloc(1, BLOCK + 64), in[64];
     if (ask(socket_of, out, frame(out, 1, (const uint8_t[6]){1}, 6, 0), in) != 0) fail("REWIND");
-    size_t length = frame(out, 1, CDBS[WRITE], 6, BLOCK);
+    size_t length = frame_of(out, 1, WRITE, BLOCK);
     for (int block = 0; block < ALL_BLOCKS; block++) {
         if (ask(socket_of, out, length, in) != 0) fail("WRITE to the first drive");
     }
@@ -122,7 +132,7 @@ static double measure(int *sockets, int count, enum kind kind, int rounds, enum 
     struct host hosts[CONNECTIONS];
     for (int place = 0; place < count; place++) {
         int lun = way == ONE_DRIVE ? 1 : place + 1;
-        hosts[place] = (struct host){sockets[place], lun, kind, rounds, way == PLAIN};
+        hosts[place] = (struct host){sockets[place], lun, kind, rounds, way == PLAIN, BLOCK};
     }
     return seconds_of(play, hosts, sizeof *hosts, count);
 }
@@ -191,11 +201,57 @@ static void tell_threads(int *ours, int *plain)
     }
 }
 
+/* PLOTS */
+
+static FILE *file_in(const char *directory, const char *name)
+{
+    char path[4096];
+    snprintf(path, sizeof path, "%s/%s", directory, name);
+    FILE *file = fopen(path, "w");
+    if (file == NULL) fail(path);
+    return file;
+}
+
+static void write_connections(int *ours, int *plain, const char *directory)
+{
+    FILE *file = file_in(directory, "connections");
+    for (int count = 1; count <= CONNECTIONS; count++) {
+        double theirs = 0, mine = 0, trips = (double)SLICES * count * ROUNDS[READY] * ROUND;
+        for (int slice = 0; slice < SLICES; slice++) {
+            theirs += measure(plain, count, READY, ROUNDS[READY], PLAIN);
+            mine += measure(ours, count, READY, ROUNDS[READY], OWN_DRIVES);
+        }
+        fprintf(file, "%d %.0f %.0f\n", count, trips / mine, trips / theirs);
+    }
+    fclose(file);
+}
+
+/* MiB a second of one connection, in a round for each slice. */
+static void write_blocks(int ours, int plain, const char *directory)
+{
+    FILE *file = file_in(directory, "blocks");
+    for (uint32_t block = 512; block <= MOST_BLOCK; block *= 2) {
+        double mebibytes = (double)SLICES * ROUND * block / (1 << 20);
+        fprintf(file, "%u", block);
+        for (int kind = WRITE; kind <= READ; kind++) {
+            double theirs = 0, mine = 0;
+            struct host host = {ours, 1, (enum kind)kind, 1, 0, block}, plain_host = {plain, 1, (enum kind)kind, 1, 1, block};
+            for (int slice = 0; slice < SLICES; slice++) {
+                theirs += seconds_of(play, &plain_host, sizeof plain_host, 1);
+                mine += seconds_of(play, &host, sizeof host, 1);
+            }
+            fprintf(file, " %.1f %.1f", mebibytes / mine, mebibytes / theirs);
+        }
+        fprintf(file, "\n");
+    }
+    fclose(file);
+}
+
 int main(int argc, char **argv)
 {
     int ours[CONNECTIONS], plain[CONNECTIONS];
-    int is_threads = argc == 4 && strcmp(argv[3], "threads") == 0;
-    if (argc != 3 && !is_threads) return 2;
+    int is_threads = argc == 4 && strcmp(argv[3], "threads") == 0, is_plots = argc == 5 && strcmp(argv[3], "plots") == 0;
+    if (argc != 3 && !is_threads && !is_plots) return 2;
     struct sockaddr_un address = address_of(argv[2]);
     int listener = socket(AF_UNIX, SOCK_STREAM, 0);
     if (bind(listener, (struct sockaddr *)&address, sizeof address) != 0 || listen(listener, 8) != 0) fail(argv[2]);
@@ -208,7 +264,10 @@ int main(int argc, char **argv)
     }
     if (is_threads)
         tell_threads(ours, plain);
-    else
+    else if (is_plots) {
+        write_connections(ours, plain, argv[4]);
+        write_blocks(ours[0], plain[0], argv[4]);
+    } else
         tell_ratios(ours, plain);
     for (int place = 0; place < CONNECTIONS; place++) {
         uint8_t in[16];
