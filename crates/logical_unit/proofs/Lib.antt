@@ -11,6 +11,7 @@ pub mod FreeEnds
 pub mod LeftToDrives
 pub mod LeftUnasked
 pub mod NamedDrives
+pub mod ErrandTold
 pub mod Halves
 pub mod Moved
 pub mod SameUnits

@@ -27,7 +27,7 @@ use Rattle.judgement.specs.UnitStateView.{UnitStateView}
 use Rattle.judgement.specs.declared.command.Command.TheVariants.{Device}
 use Rattle.logical_unit.specs.Legal.{is_of_every_unit, is_reserve_out, left_by_class}
 use Rattle.logical_unit.specs.MoveJudgement.{DecodesTo}
-use Rattle.logical_unit.specs.Route.{drive_at, is_upward, errand_in, errand_of, named_by, named_among, named_in, named}
+use Rattle.logical_unit.specs.Route.{drive_at, is_upward, errand_in, errand_of, class_of_errand, named_by, named_among, named_in, named}
 use Rattle.logical_unit.specs.declared.route.Errand.{Errand}
 use Rattle.logical_unit.specs.declared.route.Errand.TheVariants as errand
 use Rattle.logical_unit.specs.declared.route.ExchangeRoute.{ExchangeRoute}
@@ -280,16 +280,16 @@ errand_asked device cdb bytes l more e =
     ap (λ (d : Result Request CdbFault). elim d [ Ok q ↦ command_of q bytes | Err fault ↦ Err (condition_of_fault fault) ]) e.decodes.reads
     ∙ (moving (drives_of device) e.decodes.request e.errand e.asks).command bytes
 
-abbrev pub class_of_errand : Errand → Class
-class_of_errand (errand.Move r) = class.MoveMedium
-class_of_errand (errand.Exchange x) = class.ExchangeMedium
-
 class_asked : (drives : ℕ) (q : Request) (e : Errand) → Asks drives q e → class_of q ≡ class_of_errand e
 class_asked drives q (errand.Move r) a = ap class_of a.is
 class_asked drives q (errand.Exchange x) a = ap class_of a.is
 
-pub act_asked : (device : DeviceView) (cdb bytes : List ℕ) (l : ℕ) (more : List ℕ) (named_so : HasErrand device cdb l more)
-    → act_of (commands_of device) cdb bytes ≡ act.Command (class_of_errand named_so.errand)
-act_asked device cdb bytes l more e =
-    ap act_of_decoded (errand_asked device cdb bytes l more e)
-    ∙ ap (λ (c : Class). act.Command c) (class_asked (drives_of device) e.decodes.request e.errand e.asks)
+-- so the record of a command that asks this of volumes tells the errand's class
+pub act_asked : (commands : CommandSet) (drives : ℕ) (cdb bytes : List ℕ) (e : Errand) → errand_of commands drives cdb ≡ Some e
+    → act_of commands cdb bytes ≡ act.Command (class_of_errand e)
+act_asked commands drives cdb bytes e is =
+    let s = decodes commands drives cdb e is in
+    let a = asks drives s.request e s.asks in
+    ap (λ (d : Result Request CdbFault). act_of_decoded (elim d [ Ok q ↦ command_of q bytes | Err fault ↦ Err (condition_of_fault fault) ])) s.reads
+    ∙ ap act_of_decoded ((moving drives s.request e a).command bytes)
+    ∙ ap (λ (c : Class). act.Command c) (class_asked drives s.request e a)

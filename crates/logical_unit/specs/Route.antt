@@ -3,6 +3,8 @@
 use Rattle.std.specs.Prelude.{ℕ, ◌+◌, ◌-◌, ◌==◌, ◌≤◌, nat_lt, Bool, true, List, [], ◌∷◌, ◌++◌, Option, Some, None, Ok, Err, if◌then◌else◌}
 use Rattle.std.specs.List.{list_all}
 use Rattle.scsi_cdb.specs.Commands.{decoded}
+use Rattle.scsi_cdb.specs.declared.classes.Class.{Class}
+use Rattle.scsi_cdb.specs.declared.classes.Class.TheVariants as class
 use Rattle.scsi_cdb.specs.declared.host_request.HostRequest.TheVariants.{ExchangeMedium}
 use Rattle.scsi_cdb.specs.declared.profile.CommandSet.{CommandSet}
 use Rattle.scsi_cdb.specs.declared.request.Request.{Request}
@@ -32,6 +34,11 @@ errand_in drives request = None
 -- what a CDB asks of volumes at a changer with these commands and so many drives; other commands ask nothing of them
 abbrev pub errand_of : CommandSet → (drives : ℕ) → (cdb : List ℕ) → Option Errand
 errand_of commands drives cdb = elim (decoded commands cdb) [ Ok request ↦ errand_in drives request | Err fault ↦ None ]
+
+-- the class of the commands that ask for it
+abbrev pub class_of_errand : Errand → Class
+class_of_errand (Move r) = class.MoveMedium
+class_of_errand (Exchange x) = class.ExchangeMedium
 
 -- whether a volume goes from a drive to one of a higher number
 abbrev pub is_upward : Option ℕ → Option ℕ → Bool

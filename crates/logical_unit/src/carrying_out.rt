@@ -1,4 +1,4 @@
-ghost use Rattle.std.specs.Prelude.{◌≡◌, ◌≢◌, true, [], ◌∷◌, ◌++◌, Some, None};
+ghost use Rattle.std.specs.Prelude.{◌≡◌, true, [], ◌∷◌, ◌++◌, Some, None};
 ghost use Rattle.device_server.specs.View.{commands_of, drives_of};
 ghost use Rattle.judgement.specs.Replies.{busy};
 ghost use Rattle.judgement.specs.Commands.{act_of_decoded};
@@ -10,17 +10,17 @@ ghost use Rattle.logical_unit.specs.Answers.{IsAnswer, own_number};
 ghost use Rattle.logical_unit.specs.Move.{MovesOne, MovesTwo, numbers_of};
 ghost use Rattle.logical_unit.specs.Route.{named};
 ghost use Rattle.logical_unit.specs.Step.{Executes, IsLost, IsReset};
-ghost use Rattle.logical_unit.specs.VolumeAfter.{volume_after};
+ghost use Rattle.logical_unit.specs.VolumeAfter.{at_end, volume_after};
 
 use crate::act_kind::ActKind;
 use crate::done::{Done, EventKind, asked_by, done_with};
-use crate::moves::{move_one, move_two};
+use crate::moves::{errand_in, move_one_for, move_two_for, route_in};
 use crate::receipt::Receipt;
 use crate::route::{Errand, errand_of};
 use crate::unit::LogicalUnit;
 use device_server::DeviceServer;
 use judgement::ReceivedCommand;
-use scsi_cdb::{Class, Kind, is_immediate};
+use scsi_cdb::{Kind, is_immediate};
 use scsi_nexus::Nexus;
 use std::alloc::Global;
 use tape_medium::VolumeTag;
@@ -30,22 +30,6 @@ fn recorded_kind(act: ActKind, numbers: &[(u8, u64)]) -> Option<ActKind>
     ensures { result ≡ act_kind_if numbers.now act }
 {
     if numbers.is_empty() { None } else { Some(act) }
-}
-
-/// What the record of a command that names drives says was asked: a MOVE MEDIUM, or an EXCHANGE MEDIUM.
-fn kind_of_errand<D: DeviceServer>(
-    changer: &LogicalUnit<D>,
-    received: &ReceivedCommand<'_>,
-) -> ActKind
-    requires kind { IsFor changer.now.unit.device received.now }
-    requires named { named (commands_of changer.now.unit.device) (drives_of changer.now.unit.device) received.now.cdb ≢ [] }
-    ensures { result ≡ act_kind_of (act_of_decoded (command_in received.now)) }
-{
-    match errand_of(changer.drives(), received) {
-        Some(Errand::Move(_)) => ActKind::Command(Class::MoveMedium),
-        Some(Errand::Exchange(_)) => ActKind::Command(Class::ExchangeMedium),
-        None => unreachable!(),
-    }
 }
 
 /// The volume that a command was carried out on which was sent to a unit: at a drive the one in its bay, at a changer the one where
@@ -60,10 +44,19 @@ fn volume_after<D: DeviceServer>(
     match unit.kind() {
         Kind::Drive => unit.held(0),
         Kind::Changer => match errand_of(unit.drives(), received) {
-            Some(Errand::Move(route)) => unit.held(route.destination),
-            Some(Errand::Exchange(route)) => unit.held(route.given_end()),
+            Some(errand) => volume_at_end(unit, errand),
             None => None,
         },
+    }
+}
+
+/// The one of an errand at a changer that carried it out.
+fn volume_at_end<D: DeviceServer>(changer: &LogicalUnit<D>, errand: Errand) -> Option<VolumeTag>
+    ensures { result ≡ at_end changer.now.unit.device (Some errand) }
+{
+    match errand {
+        Errand::Move(route) => changer.held(route.destination),
+        Errand::Exchange(route) => changer.held(route.given_end()),
     }
 }
 
@@ -160,10 +153,11 @@ pub fn carry_out_move_one<'a, D: DeviceServer>(
     ensures unnumbered { result.numbers ≡ [] → result.reply ≡ busy }
 {
     let lun = changer.lun();
-    let asked = kind_of_errand(changer, received);
-    let receipt = move_one(alloc, changer, drive, received);
+    let errand = errand_in(changer, received);
+    let receipt = move_one_for(alloc, changer, drive, received, errand);
+    let asked = ActKind::Command(errand.class());
     let act = recorded_kind(asked, receipt.numbers.as_slice());
-    let volume = volume_after(changer, received);
+    let volume = volume_at_end(changer, errand);
     done_with(
         Some(received.nexus()),
         lun,
@@ -193,10 +187,12 @@ pub fn carry_out_move_two<'a, D: DeviceServer>(
     ensures unnumbered { result.numbers ≡ [] → result.reply ≡ busy }
 {
     let lun = changer.lun();
-    let asked = kind_of_errand(changer, received);
-    let receipt = move_two(alloc, changer, low, high, received);
+    let route = route_in(changer, received);
+    let receipt = move_two_for(alloc, changer, low, high, received, route);
+    let errand = Errand::Move(route);
+    let asked = ActKind::Command(errand.class());
     let act = recorded_kind(asked, receipt.numbers.as_slice());
-    let volume = volume_after(changer, received);
+    let volume = volume_at_end(changer, errand);
     done_with(
         Some(received.nexus()),
         lun,

@@ -303,10 +303,32 @@ pub fn move_one<D: DeviceServer>(
     ensures outsider { MayNotChange changer.old.unit.state.reservations received.now.nexus → SameContents changer.old.unit.device changer.new.unit.device }
     ensures stays { MayNotChange changer.old.unit.state.reservations received.now.nexus → drive.new.unit ≡ drive.old.unit }
 {
+    let errand = errand_in(changer, received);
+    move_one_for(alloc, changer, drive, received, errand)
+}
+
+/// The same, where what the command asks of volumes is known.
+pub(crate) fn move_one_for<D: DeviceServer>(
+    alloc: Global,
+    changer: &mut LogicalUnit<D>,
+    drive: &mut LogicalUnit<D>,
+    received: &ReceivedCommand<'_>,
+    errand: Errand,
+) -> Receipt
+    requires kind { IsFor changer.old.unit.device received.now }
+    requires named { named (commands_of changer.old.unit.device) (drives_of changer.old.unit.device) received.now.cdb ≡ drive.old.unit.state.lun ∷ [] }
+    requires decodes { DecodesTo (commands_of changer.old.unit.device) (drives_of changer.old.unit.device) received.now.cdb errand }
+    requires errand { errand_of (commands_of changer.old.unit.device) (drives_of changer.old.unit.device) received.now.cdb ≡ Some errand }
+    requires changer { kind_of changer.old.unit.device ≡ Changer }
+    ensures units { MovesOne changer.old.unit drive.old.unit received.now.nexus received.now.cdb received.now.bytes ((changer.new.unit, result.reply), drive.new.unit) }
+    ensures busy { OneIsBusyOnlyFor changer.old drive.old received.now.nexus received.now.cdb received.now.bytes result.reply }
+    ensures numbers { result.numbers.items ≡ numbers_of changer.old.unit changer.new.unit ++ numbers_of drive.old.unit drive.new.unit }
+    ensures outsider { MayNotChange changer.old.unit.state.reservations received.now.nexus → SameContents changer.old.unit.device changer.new.unit.device }
+    ensures stays { MayNotChange changer.old.unit.state.reservations received.now.nexus → drive.new.unit ≡ drive.old.unit }
+{
     let lun = changer.lun();
     let drive_lun = drive.lun();
     let last = drive.last();
-    let errand = errand_in(changer, received);
     let (act, decision) = match changer.begin(alloc, received, errand) {
         MoveJudgement::Answered(reply) => return Receipt::of(lun, reply),
         MoveJudgement::Left(act, decision) => (act, decision),
@@ -339,10 +361,33 @@ pub fn move_two<D: DeviceServer>(
     ensures outsider { MayNotChange changer.old.unit.state.reservations received.now.nexus → SameContents changer.old.unit.device changer.new.unit.device }
     ensures stay { MayNotChange changer.old.unit.state.reservations received.now.nexus → (low.new.unit ≡ low.old.unit) × (high.new.unit ≡ high.old.unit) }
 {
+    let route = route_in(changer, received);
+    move_two_for(alloc, changer, low, high, received, route)
+}
+
+/// The same, where the route is known.
+pub(crate) fn move_two_for<D: DeviceServer>(
+    alloc: Global,
+    changer: &mut LogicalUnit<D>,
+    low: &mut LogicalUnit<D>,
+    high: &mut LogicalUnit<D>,
+    received: &ReceivedCommand<'_>,
+    route: Route,
+) -> Receipt
+    requires kind { IsFor changer.old.unit.device received.now }
+    requires named { named (commands_of changer.old.unit.device) (drives_of changer.old.unit.device) received.now.cdb ≡ low.old.unit.state.lun ∷ high.old.unit.state.lun ∷ [] }
+    requires decodes { DecodesTo (commands_of changer.old.unit.device) (drives_of changer.old.unit.device) received.now.cdb (Move route) }
+    requires errand { errand_of (commands_of changer.old.unit.device) (drives_of changer.old.unit.device) received.now.cdb ≡ Some (Move route) }
+    requires changer { kind_of changer.old.unit.device ≡ Changer }
+    ensures units { MovesTwo changer.old.unit (record { low = low.old.unit; high = high.old.unit }) received.now.nexus received.now.cdb received.now.bytes ((changer.new.unit, result.reply), record { low = low.new.unit; high = high.new.unit }) }
+    ensures busy { TwoAreBusyOnlyFor changer.old low.old high.old received.now.nexus received.now.cdb received.now.bytes result.reply }
+    ensures numbers { result.numbers.items ≡ numbers_of changer.old.unit changer.new.unit ++ numbers_of low.old.unit low.new.unit ++ numbers_of high.old.unit high.new.unit }
+    ensures outsider { MayNotChange changer.old.unit.state.reservations received.now.nexus → SameContents changer.old.unit.device changer.new.unit.device }
+    ensures stay { MayNotChange changer.old.unit.state.reservations received.now.nexus → (low.new.unit ≡ low.old.unit) × (high.new.unit ≡ high.old.unit) }
+{
     let lun = changer.lun();
     let low_lun = low.lun();
     let high_lun = high.lun();
-    let route = route_in(changer, received);
     let (act, decision) = match changer.begin(alloc, received, Errand::Move(route)) {
         MoveJudgement::Answered(reply) => return Receipt::of(lun, reply),
         MoveJudgement::Left(act, decision) => (act, decision),
@@ -361,7 +406,10 @@ pub fn move_two<D: DeviceServer>(
 }
 
 /// What a command that names a drive asks of volumes.
-fn errand_in<D: DeviceServer>(changer: &LogicalUnit<D>, received: &ReceivedCommand<'_>) -> Errand
+pub(crate) fn errand_in<D: DeviceServer>(
+    changer: &LogicalUnit<D>,
+    received: &ReceivedCommand<'_>,
+) -> Errand
     requires kind { IsFor changer.now.unit.device received.now }
     requires named { named (commands_of changer.now.unit.device) (drives_of changer.now.unit.device) received.now.cdb ≢ [] }
     ensures decodes { DecodesTo (commands_of changer.now.unit.device) (drives_of changer.now.unit.device) received.now.cdb result }
@@ -375,7 +423,10 @@ fn errand_in<D: DeviceServer>(changer: &LogicalUnit<D>, received: &ReceivedComma
 }
 
 /// The route of a command that names two drives, which is a MOVE MEDIUM.
-fn route_in<D: DeviceServer>(changer: &LogicalUnit<D>, received: &ReceivedCommand<'_>) -> Route
+pub(crate) fn route_in<D: DeviceServer>(
+    changer: &LogicalUnit<D>,
+    received: &ReceivedCommand<'_>,
+) -> Route
     requires kind { IsFor changer.now.unit.device received.now }
     requires named { 1 < length (named (commands_of changer.now.unit.device) (drives_of changer.now.unit.device) received.now.cdb) }
     ensures decodes { DecodesTo (commands_of changer.now.unit.device) (drives_of changer.now.unit.device) received.now.cdb (Move result) }

@@ -6,7 +6,7 @@ ghost use Rattle.logical_unit.specs.Route.{drive_at, drive_in, errand_in, errand
 
 use arrayvec::ArrayVec;
 use judgement::ReceivedCommand;
-use scsi_cdb::{HostRequest, Request};
+use scsi_cdb::{Class, HostRequest, Request};
 use tape_medium::FIRST_DATA_TRANSFER;
 
 /// The ends of a MOVE MEDIUM by their element addresses, and the drives among them by logical unit number.
@@ -77,7 +77,17 @@ pub enum Errand {
 
 impl Errand {
     ghost use Rattle.std.specs.Prelude.{◌≡◌};
-    ghost use Rattle.logical_unit.specs.Route.{records_for};
+    ghost use Rattle.logical_unit.specs.Route.{class_of_errand, records_for};
+
+    /// The class of the commands that ask for it.
+    pub(crate) fn class(self) -> Class
+        ensures { result ≡ class_of_errand self }
+    {
+        match self {
+            Errand::Move(_) => Class::MoveMedium,
+            Errand::Exchange(_) => Class::ExchangeMedium,
+        }
+    }
 
     /// How many records a drive has of it, which it names alone.
     pub(crate) fn records(self) -> u8

@@ -4,7 +4,7 @@ use Rattle.logical_unit.specs.UnitView.{UnitWithRoom, last_number}
 use Rattle.logical_unit.proofs.MoveBusy.{answered_lacks}
 use Rattle.logical_unit.proofs.NumbersOf.{noted, answered_noted, ends_noted, joined, unmoved, drive_noted_more}
 use Rattle.logical_unit.proofs.Outsiders.{never_left, one_unchanged}
-use Rattle.logical_unit.proofs.moves.move_one.Goals as goal
+use Rattle.logical_unit.proofs.moves.move_one_for.Goals as goal
 
 pub returns-in-Answered-clause-busy : goal.returns-in-Answered-clause-busy
 returns-in-Answered-clause-busy g c = λ busy.

@@ -5,7 +5,7 @@ use Rattle.logical_unit.proofs.MoveBusy.{answered_lacks}
 use Rattle.logical_unit.proofs.NumbersOf.{noted, answered_noted, ends_noted, joined_two, unmoved_two, drive_noted}
 use Rattle.logical_unit.specs.Move.{TwoDrives}
 use Rattle.logical_unit.proofs.Outsiders.{never_left, two_unchanged}
-use Rattle.logical_unit.proofs.moves.move_two.Goals as goal
+use Rattle.logical_unit.proofs.moves.move_two_for.Goals as goal
 
 pub returns-in-Answered-clause-busy : goal.returns-in-Answered-clause-busy
 returns-in-Answered-clause-busy g c = λ busy.
@@ -44,6 +44,11 @@ returns-in-Err-clause-numbers g c =
 -- nothing is carried for a sender that may change nothing here
 pub returns-in-Ok-clause-outsider : goal.returns-in-Ok-clause-outsider
 returns-in-Ok-clause-outsider g c closed = absurd (never_left c.args.changer.now.unit c.args.received.now.nexus c.args.received.now.cdb
+    c.args.received.now.bytes c.args.low.now.unit.state.lun (c.args.high.now.unit.state.lun ∷ []) c.requires.named closed
+    c.in-Left.ensures.left.left)
+
+pub returns-in-Err-clause-outsider : goal.returns-in-Err-clause-outsider
+returns-in-Err-clause-outsider g c closed = absurd (never_left c.args.changer.now.unit c.args.received.now.nexus c.args.received.now.cdb
     c.args.received.now.bytes c.args.low.now.unit.state.lun (c.args.high.now.unit.state.lun ∷ []) c.requires.named closed
     c.in-Left.ensures.left.left)
 
