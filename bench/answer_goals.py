@@ -44,7 +44,7 @@ def text_of(path):
 
 
 class Answers:
-    """A function's file of answers: what stood in it, and the goals beside that, each with its place in the row."""
+    """A function's file of answers: what stood in it, and the goals next to that, each with its place in the row."""
 
     def __init__(self, crate, function, offered):
         self.path = os.path.join(crate, "proofs", *function.split("::"), "Answers.antt")

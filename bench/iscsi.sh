@@ -1,6 +1,6 @@
 #!/bin/sh
 # Measures commands over iSCSI: TEST UNIT READY, and WRITE(6) and READ(6) of 64 KiB, from one session and from four, each at a drive of its
-# own, one at a time and 32 at once; and beside them, in the same run, the same at the Unix socket of the same server, and a plain server
+# own, one at a time and 32 at once; and next to them, in the same run, the same at the Unix socket of the same server, and a plain server
 # (bench/plain_server.h) that reads and answers as many bytes over TCP. A line says how many commands a second each had, over all sessions,
 # and the ratios. It takes cc, and a minute or two.
 set -eu

@@ -1,4 +1,4 @@
-/* Commands over iSCSI, and beside them the same at the Unix socket of the same server, one at a time and as many at once as the window of a
+/* Commands over iSCSI, and next to them the same at the Unix socket of the same server, one at a time and as many at once as the window of a
  * session has; and, one at a time, those of a plain server that reads and answers as many bytes over TCP.
  *
  * iscsi_load VTL_SOCKET PORT TARGET: four drives with a volume each are asked at VTL_SOCKET and at PORT of 127.0.0.1, where any host is
@@ -185,13 +185,14 @@ static void play_round(struct session *session, enum kind kind, int at_once)
 
 static void play_plain_round(struct session *session, enum kind kind)
 {
-    uint32_t data = kind == WRITE ? BLOCK : 0, sizes[2] = {HEADER + data, (uint32_t)(HEADER + (kind == READ ? BLOCK : 0))};
+    uint32_t data = kind == WRITE ? BLOCK : 0;
+    struct round sizes = {HEADER + data, (uint32_t)(HEADER + (kind == READ ? BLOCK : 0)), 0};
     uint8_t header[HEADER] = {0};
-    send_bytes(session->socket, sizes, sizeof sizes);
+    send_bytes(session->socket, &sizes, sizeof sizes);
     for (int turn = 0; turn < ROUND; turn++) {
         struct iovec parts[2] = {{header, HEADER}, {block, data}};
         send_parts(session->socket, parts, 2);
-        if (!receive_all(session->socket, session->in, sizes[1])) fail("plain reply");
+        if (!receive_all(session->socket, session->in, sizes.reply)) fail("plain reply");
     }
 }
 

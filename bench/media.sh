@@ -1,5 +1,5 @@
 #!/bin/sh
-# Measures a volume that is kept beside one that isn't: WRITE(6) and READ(6) of 64 KiB at `vtl serve`, the longest of them, the filemark
+# Measures a volume that is kept next to one that isn't: WRITE(6) and READ(6) of 64 KiB at `vtl serve`, the longest of them, the filemark
 # behind them, SPACE over all, and a start that reads it.
 #   media.sh [GIB [FOLDER]]    8 GiB, in a folder that is removed again; the disk of FOLDER counts, and twice as much memory
 set -eu

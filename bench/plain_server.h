@@ -1,16 +1,23 @@
 /* A plain server to compare `vtl serve` with, over any stream sockets: how many bytes a request and a reply have comes first, each in four
- * bytes, and then a round of them. And what its hosts share. */
+ * bytes, then whether it keeps blocks, and then a round of them. One that keeps blocks copies each into memory, or from there, as the least
+ * that a library does which has tapes in memory. And what its hosts share. */
 #include <netinet/in.h>
 #include <netinet/tcp.h>
 #include <pthread.h>
 #include <stdint.h>
 #include <stdio.h>
 #include <stdlib.h>
+#include <string.h>
 #include <sys/socket.h>
 #include <time.h>
 #include <unistd.h>
 
 enum { BLOCK = 65536, MOST_BLOCK = 1 << 20, HEADER = 48, ROUND = 200 };
+
+/* How many bytes each request and each reply of a round has, and whether blocks of BLOCK bytes are kept. */
+struct round {
+    uint32_t request, reply, keeps;
+};
 
 static void fail(const char *what)
 {
@@ -44,17 +51,21 @@ static int receive_all(int socket, uint8_t *bytes, size_t count)
 static void *answer_plainly(void *given)
 {
     int socket_of = *(int *)given;
-    uint32_t sizes[2];
-    uint8_t *bytes = calloc(1, MOST_BLOCK + HEADER);
+    struct round round;
+    uint8_t *bytes = calloc(1, MOST_BLOCK + HEADER), *kept = calloc(ROUND, BLOCK);
     free(given);
-    while (receive_all(socket_of, (uint8_t *)sizes, sizeof sizes)) {
+    while (receive_all(socket_of, (uint8_t *)&round, sizeof round)) {
         for (int turn = 0; turn < ROUND; turn++) {
-            if (!receive_all(socket_of, bytes, sizes[0])) break;
-            send_bytes(socket_of, bytes, sizes[1]);
+            uint8_t *place = kept + (size_t)turn * BLOCK;
+            if (!receive_all(socket_of, bytes, round.request)) break;
+            if (round.keeps && round.request > BLOCK) memcpy(place, bytes + round.request - BLOCK, BLOCK);
+            if (round.keeps && round.reply > BLOCK) memcpy(bytes + round.reply - BLOCK, place, BLOCK);
+            send_bytes(socket_of, bytes, round.reply);
         }
     }
     close(socket_of);
     free(bytes);
+    free(kept);
     return NULL;
 }
 

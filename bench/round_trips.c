@@ -1,8 +1,8 @@
-/* Round trips at `vtl serve` and, beside them, of a plain server that reads as many bytes and answers as many.
+/* Round trips at `vtl serve` and, next to them, of a plain server that reads as many bytes and answers as many, also where it keeps blocks.
  *
  * round_trips VTL_SOCKET PLAIN_SOCKET [threads | plots DIRECTORY]: four drives with a volume each are asked at VTL_SOCKET; the plain server
- * is started here. With `threads` it tells what connections gain beside each other: one, two and four, each at a drive of its own, all at
- * one drive, and at the plain server; and beside them what threads gain that only count. With `plots` it writes what is drawn into files:
+ * is started here. With `threads` it tells what connections gain together: one, two and four, each at a drive of its own, all at
+ * one drive, and at the plain server; and next to them what threads gain that only count. With `plots` it writes what is drawn into files:
  * `connections` has how many there are, and the TEST UNIT READYs a second of both servers; `blocks` has bytes a block, and the MiB a
  * second of WRITE(6) and of READ(6), of both. Blocks go up to 1 MiB, so the library has to be one for hosts.
  */
@@ -33,13 +33,14 @@ static int connect_to(const char *path)
 /* THE HOSTS */
 
 enum kind { READY, WRITE, READ };
+enum way { OWN_DRIVES, ONE_DRIVE, PLAIN, WAYS, KEEPING };
 
 struct host {
     int socket;
     int lun;
     enum kind kind;
     int rounds;
-    int is_plain;
+    enum way way;
     uint32_t block;
 };
 
@@ -78,16 +79,17 @@ static void *play(void *given)
     uint8_t *out = calloc(1, host->block + 64), *in = calloc(1, host->block + 64), rewind_to[16];
     size_t length = frame_of(out, host->lun, host->kind, host->block);
     size_t rewinding = frame(rewind_to, host->lun, (const uint8_t[6]){1}, 6, 0);
-    uint32_t sizes[2] = {(uint32_t)length, (uint32_t)(HEAD + (host->kind == READ ? host->block : 0))};
+    int is_plain = host->way == PLAIN || host->way == KEEPING;
+    struct round sizes = {(uint32_t)length, (uint32_t)(HEAD + (host->kind == READ ? host->block : 0)), host->way == KEEPING};
     for (int round = 0; round < host->rounds; round++) {
-        if (host->is_plain)
-            send_bytes(host->socket, (uint8_t *)sizes, sizeof sizes);
+        if (is_plain)
+            send_bytes(host->socket, &sizes, sizeof sizes);
         else if (ask(host->socket, rewind_to, rewinding, in) != 0)
             fail("REWIND");
         for (int turn = 0; turn < ROUND; turn++) {
-            if (host->is_plain) {
+            if (is_plain) {
                 send_bytes(host->socket, out, length);
-                if (!receive_all(host->socket, in, sizes[1])) fail("plain reply");
+                if (!receive_all(host->socket, in, sizes.reply)) fail("plain reply");
             } else if (ask(host->socket, out, length, in) != 0) {
                 fail("command");
             }
@@ -124,15 +126,13 @@ static void fill(int socket_of)
     free(out);
 }
 
-enum way { OWN_DRIVES, ONE_DRIVE, PLAIN, WAYS };
-
 /* How many seconds so many rounds at each connection take. */
 static double measure(int *sockets, int count, enum kind kind, int rounds, enum way way)
 {
     struct host hosts[CONNECTIONS];
     for (int place = 0; place < count; place++) {
         int lun = way == ONE_DRIVE ? 1 : place + 1;
-        hosts[place] = (struct host){sockets[place], lun, kind, rounds, way == PLAIN, BLOCK};
+        hosts[place] = (struct host){sockets[place], lun, kind, rounds, way, BLOCK};
     }
     return seconds_of(play, hosts, sizeof *hosts, count);
 }
@@ -141,18 +141,20 @@ static const char *NAMES[3] = {"TEST UNIT READY", "WRITE(6), 64 KiB", "READ(6), 
 /* How many rounds a slice has. The servers and the ways are asked in turn, a slice each, so that all meet what else the machine does. */
 static const int ROUNDS[3] = {40, 10, 10};
 
-/* Round trips a second of both servers, from one connection and from four. */
+/* Round trips a second of the servers, from one connection and from four. */
 static void tell_ratios(int *ours, int *plain)
 {
-    printf("%-18s %11s %10s %10s %6s\n", "command", "connections", "ours/s", "plain/s", "ratio");
+    printf("%-18s %11s %10s %10s %6s %10s %6s\n", "command", "connections", "ours/s", "plain/s", "ratio", "keeping/s", "ratio");
     for (int kind = READY; kind <= READ; kind++) {
         for (int count = 1; count <= CONNECTIONS; count *= 4) {
-            double theirs = 0, mine = 0, trips = (double)SLICES * count * ROUNDS[kind] * ROUND;
+            double theirs = 0, keeping = 0, mine = 0, trips = (double)SLICES * count * ROUNDS[kind] * ROUND;
             for (int slice = 0; slice < SLICES; slice++) {
                 theirs += measure(plain, count, (enum kind)kind, ROUNDS[kind], PLAIN);
                 mine += measure(ours, count, (enum kind)kind, ROUNDS[kind], OWN_DRIVES);
+                keeping += measure(plain, count, (enum kind)kind, ROUNDS[kind], KEEPING);
             }
-            printf("%-18s %11d %10.0f %10.0f %5.0f%%\n", NAMES[kind], count, trips / mine, trips / theirs, 100 * theirs / mine);
+            printf("%-18s %11d %10.0f %10.0f %5.0f%% %10.0f %5.0f%%\n", NAMES[kind], count, trips / mine, trips / theirs,
+                   100 * theirs / mine, trips / keeping, 100 * keeping / mine);
         }
     }
 }
@@ -235,7 +237,7 @@ static void write_blocks(int ours, int plain, const char *directory)
         fprintf(file, "%u", block);
         for (int kind = WRITE; kind <= READ; kind++) {
             double theirs = 0, mine = 0;
-            struct host host = {ours, 1, (enum kind)kind, 1, 0, block}, plain_host = {plain, 1, (enum kind)kind, 1, 1, block};
+            struct host host = {ours, 1, (enum kind)kind, 1, OWN_DRIVES, block}, plain_host = {plain, 1, (enum kind)kind, 1, PLAIN, block};
             for (int slice = 0; slice < SLICES; slice++) {
                 theirs += seconds_of(play, &plain_host, sizeof plain_host, 1);
                 mine += seconds_of(play, &host, sizeof host, 1);

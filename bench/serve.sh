@@ -1,7 +1,8 @@
 #!/bin/sh
 # Measures round trips at `vtl serve`: TEST UNIT READY, and WRITE(6) and READ(6) of 64 KiB, from one connection and from four, each
-# at a drive of its own; and beside them, in the same run, those of a plain server (bench/plain_server.h) that reads and answers as
-# many bytes over the same kind of socket. A line says how many round trips a second each had, over all connections, and the ratio.
+# at a drive of its own; and next to them, in the same run, those of a plain server (bench/plain_server.h) that reads and answers as
+# many bytes over the same kind of socket, first as it is, then where it keeps blocks: it copies each once, into memory or from there.
+# A line says how many round trips a second each had, over all connections, and the ratio to either.
 # It takes cc, and some ten seconds.
 set -eu
 bench=$(cd "$(dirname "$0")" && pwd)

@@ -1,6 +1,6 @@
 #!/bin/sh
-# Measures what connections to one library gain beside each other, at `vtl serve`: TEST UNIT READY, and WRITE(6) and READ(6) of 64 KiB, from
-# one, two and four connections, each at a drive of its own and then all at one; and beside them, in the same run, those of a plain server
+# Measures what connections to one library gain together, at `vtl serve`: TEST UNIT READY, and WRITE(6) and READ(6) of 64 KiB, from
+# one, two and four connections, each at a drive of its own and then all at one; and next to them, in the same run, those of a plain server
 # (bench/plain_server.h) that reads and answers as many bytes, and threads that only count: more than these gain nothing can on the
 # machine. A line says how many microseconds each command took over all connections, and how many times the commands of one connection
 # there were. A number says how many runs are made, since times differ much from run to run. It takes cc, and a minute or two a run.
