@@ -55,24 +55,15 @@ as_amanda() {
     runuser -u backup -- "$@"
 }
 
-modprobe sg
-modprobe st
-modprobe ch
+load_drivers
 log_in 10.0.2.2:13280
 await_devices /dev/nst1 /dev/sch0
 changer=$(generic_of 1A2B3C4D00)
-# A unit reports to each host what happened before it came.
-for each in /dev/sg*; do
-    for _ in 1 2 3 4; do sg_turs "$each" >/dev/null 2>&1 || true; done
-done
+hear_attentions /dev/sg*
 say "changer $changer, tapes $(tape_of 1A2B3C4D01) and $(tape_of 1A2B3C4D02)"
 ls -l "$changer" /dev/nst*
 
-# Files that no compression would shrink, of many sizes.
-mkdir -p /data /restored
-for each in $(seq 60); do head -c $((each * 52428 + each)) /dev/urandom >"/data/file_$each"; done
-cp -a /etc /data/etc
-du -sm /data
+make_files
 
 write_settings
 say "tapes get Amanda's labels"

@@ -58,24 +58,16 @@ console() {
 
 # The largest block that drives take.
 block=$((1024 * 1024))
-modprobe sg
-modprobe st
-modprobe ch
+load_drivers
 log_in 10.0.2.2:13270
 await_devices /dev/nst1 /dev/sch0
 changer=$(generic_of 1A2B3C4D00)
 systemctl stop bacula-director bacula-sd bacula-fd 2>/dev/null
-# A unit reports to each host what happened before it came.
-for each in /dev/sg*; do
-    for _ in 1 2 3 4; do sg_turs "$each" >/dev/null 2>&1 || true; done
-done
+hear_attentions /dev/sg*
 say "changer $changer, tapes $(tape_of 1A2B3C4D01) and $(tape_of 1A2B3C4D02)"
 
-# Files that no compression would shrink, of many sizes.
-mkdir -p /data /run/bacula /restored
-for each in $(seq 60); do head -c $((each * 52428 + each)) /dev/urandom >"/data/file_$each"; done
-cp -a /etc /data/etc
-du -sm /data
+mkdir -p /run/bacula
+make_files
 
 write_settings
 bacula-sd -c /etc/bacula/bacula-sd.conf

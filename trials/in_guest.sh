@@ -49,6 +49,28 @@ log_in() {
     iscsiadm -m node -p "$1" --login
 }
 
+# Loads the drivers of tapes and changers.
+load_drivers() {
+    modprobe sg
+    modprobe st
+    modprobe ch
+}
+
+# Asks units, each until it has reported what happened before this host came.
+hear_attentions() {
+    for each in "$@"; do
+        for _ in 1 2 3 4; do sg_turs "$each" >/dev/null 2>&1 || true; done
+    done
+}
+
+# Fills folders with files that no compression would shrink, of many sizes.
+make_files() {
+    mkdir -p /data /restored
+    for each in $(seq 60); do head -c $((each * 52428 + each)) /dev/urandom >"/data/file_$each"; done
+    cp -a /etc /data/etc
+    du -sm /data
+}
+
 # The SCSI generic device of the changer, or of drive N, of the library with a number.
 generic_of() {
     for each in /dev/sg*; do

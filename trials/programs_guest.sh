@@ -5,9 +5,7 @@ set -u
 # shellcheck source=trials/in_guest.sh
 . /root/in_guest.sh
 
-modprobe sg
-modprobe st
-modprobe ch
+load_drivers
 log_in 10.0.2.2:13260
 log_in 10.0.2.2:13261
 await_devices /dev/nst3 /dev/sch1
@@ -15,10 +13,7 @@ changer=$(generic_of 1A2B3C4D00)
 drive=$(generic_of 1A2B3C4D01)
 other=$(generic_of 0000BEEF00)
 say "changer $changer, drive $drive, the other changer $other"
-# A unit reports to each host what happened before it came.
-for each in "$changer" "$drive" "$other"; do
-    for _ in 1 2 3 4; do sg_turs "$each" >/dev/null 2>&1 || true; done
-done
+hear_attentions "$changer" "$drive" "$other"
 tape=$(tape_of 1A2B3C4D01)
 say "tape $tape"
 

@@ -13,7 +13,7 @@ from record_files import RecordFile
 from scsi import CHANGER, DRIVE
 from server import Server, refused
 from sockets import rest_of
-from statuses import KEY, SAS, SMALL
+from statuses import SAS, SMALL, reserves_with_tape
 from term import patience
 
 UNSENT = "vtl: a connection for metrics asked for none, or did not take them in time"
@@ -128,11 +128,7 @@ def told(tried: Tried) -> None:
     with Server(tried, *SMALL, "--records", str(file.path), *scraped.words()) as server:
         scraped.says(AT_POWER_ON)
         host = Host(server, sas=SAS)
-        host.loads()
-        host.writes(b"one", b"three")
-        host.asks(DRIVE, scsi.write_filemarks(1))
-        host.asks(DRIVE, scsi.reserve_out(0), data=scsi.key_list(0, KEY))
-        host.asks(DRIVE, scsi.reserve_out(1, 3), data=scsi.key_list(KEY, 0))
+        reserves_with_tape(host)
         other = Host(server, sas=SAS + 1)
         other.insist(DRIVE, scsi.six(0x01))
         # Two at the changer; the volume that came in and six of the first host at the drive, the notification of the other one and its conflict.

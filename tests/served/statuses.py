@@ -85,17 +85,22 @@ def says(tried: Tried, path: str, wanted: str) -> None:
     same("the status of the library", without_sessions(printed), wanted)
 
 
+def reserves_with_tape(host: Host) -> None:
+    """Brings a tape into the drive, writes two blocks and a filemark, registers a key, and reserves the drive."""
+    host.loads()
+    host.writes(b"one", b"three")
+    host.asks(DRIVE, scsi.write_filemarks(1))
+    host.asks(DRIVE, scsi.reserve_out(0), data=scsi.key_list(0, KEY))
+    host.asks(DRIVE, scsi.reserve_out(1, 3), data=scsi.key_list(KEY, 0))
+
+
 def told(tried: Tried) -> None:
     """Before any command, and after some: each number is that of the commands that were sent."""
     path = tried.path("control")
     with Server(tried, *SMALL, "--control", path) as server:
         says(tried, path, at_power_on())
         host = Host(server, sas=SAS)
-        host.loads()
-        host.writes(b"one", b"three")
-        host.asks(DRIVE, scsi.write_filemarks(1))
-        host.asks(DRIVE, scsi.reserve_out(0), data=scsi.key_list(0, KEY))
-        host.asks(DRIVE, scsi.reserve_out(1, 3), data=scsi.key_list(KEY, 0))
+        reserves_with_tape(host)
         used = {"used": 1, "of": 128}
         moved = changer("VOL00001", None, None, None, slots=used, records={"last": 2, "waiting": 2})
         volume = {"tag": "VOL00001", "protected": False, "position": 3, "objects": 3, "bytes": 8}
