@@ -1,4 +1,4 @@
--- How many objects of a tape count as unchanged is noted for whoever keeps a copy of the tape; no command looks at it.
+-- How many objects of a tape count as unchanged is noted for a program that keeps a copy of the tape; no command looks at it.
 use Rattle.std.specs.Prelude.{◌≡◌, ℕ, ◌==◌, if◌then◌else◌}
 use Rattle.std.specs.Option.{option_map}
 use Rattle.tape_medium.specs.Settling.{settled_to, settles, unsettled_place, unsettled_elements}

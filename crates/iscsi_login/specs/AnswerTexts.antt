@@ -57,7 +57,7 @@ answers_within (suc items) n text = answers_at (answers_within items) n (first_i
 abbrev pub answers_to : Negotiation → (text : List ℕ) → List ℕ
 answers_to n text = answers_within (length text + 1) n text
 
--- told whoever names the target, whatever the session is for (RFC 7143, "TargetPortalGroupTag")
+-- told each initiator that names the target, whatever the session is for (RFC 7143, "TargetPortalGroupTag")
 abbrev pub group_tag : (group : ℕ) → (wanted : Option (List ℕ)) → List ℕ
 group_tag group None = []
 group_tag group (Some name) = item_bytes (codes "TargetPortalGroupTag") (decimal group)

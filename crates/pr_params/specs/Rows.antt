@@ -118,7 +118,7 @@ pub record StatusDataRows : Type 0 where
   pub one_holder : full_status_data 4 ((a, 1) ∷ []) (Some (We, a))
       ≡ 0 ∷ 0 ∷ 0 ∷ 4 ∷ 0 ∷ 0 ∷ 0 ∷ 0x30 ∷ 0 ∷ 0 ∷ 0 ∷ 0 ∷ 0 ∷ 0 ∷ 0 ∷ 1 ∷ 0 ∷ 0 ∷ 0 ∷ 0 ∷ 1 ∷ 1 ∷ 0 ∷ 0 ∷ 0 ∷ 0 ∷ 0 ∷ 1 ∷ 0 ∷ 0 ∷ 0 ∷ 0x18
       ∷ 6 ∷ 0 ∷ 0 ∷ 0 ∷ 0x50 ∷ 0 ∷ 0 ∷ 0 ∷ 0 ∷ 0 ∷ 0 ∷ 0x0A ∷ 0 ∷ 0 ∷ 0 ∷ 0 ∷ 0 ∷ 0 ∷ 0 ∷ 0 ∷ 0 ∷ 0 ∷ 0 ∷ 0 ∷ []
-  -- WEAR: each registered nexus holds, whoever made the reservation
+  -- WEAR: each registered nexus holds, whichever made the reservation
   pub all_hold : full_status_data 5 ((a, 1) ∷ (b, 2) ∷ []) (Some (Wear, a))
       ≡ 0 ∷ 0 ∷ 0 ∷ 5 ∷ 0 ∷ 0 ∷ 0 ∷ 0x60 ∷ (descriptor 1 1 7 1 0x0A ++ descriptor 2 1 7 1 0x0B)
   -- WE: its nexus holds alone

@@ -1,4 +1,4 @@
--- How many objects of a volume's tape count as unchanged, which whoever keeps a copy of the tape notes.
+-- How many objects of a volume's tape count as unchanged, which a program that keeps a copy of the tape notes.
 use Rattle.std.specs.Prelude.{ℕ, length, map, min, Option, None, unwrap_or}
 use Rattle.std.specs.Option.{option_map}
 use Rattle.tape_medium.specs.Tape.{settled}

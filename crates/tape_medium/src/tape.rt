@@ -20,8 +20,8 @@ use scsi_cdb::Profile;
 use std::alloc::Global;
 use std::marker::Model;
 
-/// A tape: logical objects, each a block of bytes or a filemark, a position, and a capacity in bytes of blocks. For whoever keeps a
-/// copy of it, it tells how many of its first objects are as they were, and lends them.
+/// A tape: logical objects, each a block of bytes or a filemark, a position, and a capacity in bytes of blocks. For a program
+/// that keeps a copy, it tells how many of its first objects are as they were, and lends them.
 ///
 /// ```text
 /// for at in tape.unchanged()..tape.object_count() {

@@ -94,7 +94,7 @@ checks key asc ascq = tells CheckCondition (sense_with key asc ascq)
 abbrev pub exchanged : (source first second : ℕ × ℕ) → (UnitView × Reply) × UnitView
 exchanged source first second = moved_one (changer_of stocked) (unit_with (full_with second_tag) (kept 1 held [])) a (exchange source first second) []
 
--- the drive at the first destination gives the second volume, to 0402h, and takes the first: of each it has a record, and whoever had contact
+-- the drive at the first destination gives the second volume, to 0402h, and takes the first: of each it has a record, and each nexus that had contact
 -- with it will be told once
 abbrev pub through : (UnitView × Reply) × UnitView
 through = exchanged slot_1 drive_1 slot_3

@@ -102,7 +102,7 @@ moves = tells Good []
 abbrev pub checks : (key asc ascq : ℕ) → Option Answer
 checks key asc ascq = tells CheckCondition (sense_with key asc ascq)
 
--- A moves the volume in 0400h into the drive: the drive is loaded, and whoever had contact with it will be told
+-- A moves the volume in 0400h into the drive: the drive is loaded, and each nexus that had contact with it will be told
 abbrev pub loaded : (UnitView × Reply) × UnitView
 loaded = moved_one (changer_of (library (None ∷ []) (Some (volume first_tag)) None)) (empty_drive 1) a (move slot_1 drive_1) []
 

@@ -99,7 +99,7 @@ abbrev pub not_taken : State
 not_taken = history (registers a 1 ∷ registers b 2 ∷ registers c 2 ∷ (a, Reserve Wero) ∷ [])
 
 pub record WorkedRows : Type 0 where
-  -- two registrations, in order whoever came first
+  -- two registrations, in order whichever came first
   pub in_order : (history (registers b 2 ∷ registers a 1 ∷ [])).keys ≡ (a, 1) ∷ (b, 2) ∷ []
   -- REGISTER with 0 and 0 by an unregistered nexus is allowed and no act; with a wrong key it breaks K1, and then K2
   pub register_zero : verdict power_on a (command out.Register 0 0 0) ≡ Allowed

@@ -168,7 +168,7 @@ second = record { sas = 1; port = 1 }
 abbrev pub invalid_of : Nexus → Record
 invalid_of n = noted n act.Invalid Decoding CheckCondition (Some unsensed)
 
--- the 129th nexus leaves no record, whatever it sends; the 128th does, and whoever has a slot
+-- the 129th nexus leaves no record, whatever it sends; the 128th does, and each that has a slot
 pub record RoomForSenders : Type 0 where
   pub last : IsJudged (with_slots 127) (invalid_of a)
   pub last_command : IsJudged (with_slots 127) (told_first 0x29 0x00)
