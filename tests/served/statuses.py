@@ -170,7 +170,8 @@ def memory_told(tried: Tried) -> None:
         # The system counts pages of several threads now and then only.
         same("whether it is in pages, and about what there was at most", (memory % 4096, most / 2 < memory < most + (1 << 20)), (0, True))
         shown = re.search(r"\n  memory ([0-9]+\.[0-9]) MiB\n", status(tried, path)[1])
-        same("whether the picture has about the same", abs(float(shown[1]) * (1 << 20) - memory) < 1 << 20, True)
+        low, high = sorted((memory, json.loads(status(tried, path, "--json")[1])["memory"]))
+        same("whether the picture has about the same", low - (1 << 20) < float(shown[1]) * (1 << 20) < high + (1 << 20), True)
 
 
 def await_failing(tried: Tried, path: str, volumes: list[str], inventory: bool) -> str:
