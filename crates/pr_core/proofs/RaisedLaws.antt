@@ -1,9 +1,9 @@
 -- One more nexus in a loop over the registered ones.
-use Rattle.std.proofs.Common.{◌≡◌, ℕ, ◌+◌, ◌<◌, Bool, true, false, cond, List, [], ◌∷◌, ◌++◌, length, take, drop, map, get_or, refl, sym, subst, ap, ◌∙◌, Some, None, Option, Result, Ok, Err, arith}
-use Rattle.std.specs.Prelude.{T, ◌↔◌, OnOk, IsErr, filter, if◌then◌else◌, unwrap_or, option_map}
+use Rattle.std.proofs.Common.{◌≡◌, ℕ, ◌+◌, ◌<◌, Bool, true, false, cond, ◌&&◌, ◌||◌, ◌==◌, List, [], ◌∷◌, ◌++◌, length, take, drop, map, get_or, refl, sym, subst, ap, ◌∙◌, Some, None, Option, Result, Ok, Err, arith}
+use Rattle.std.specs.Prelude.{T, not, ◌↔◌, OnOk, IsErr, filter, if◌then◌else◌, unwrap_or, option_map}
 use Rattle.std.specs.Cmp.{Equal-is}
 use Rattle.std.specs.FinMap.{is_sorted}
-use Rattle.std.specs.List.{filter_map, cons_option}
+use Rattle.std.specs.List.{filter_map, cons_option, list_any}
 use Rattle.std.proofs.lemmas.List.{take_more, drop_more, map-append, append-nil}
 use Rattle.std.proofs.lemmas.List.Elements.{filter-append}
 use Rattle.scsi_nexus.specs.declared.nexus.Nexus.{Nexus}
@@ -14,12 +14,16 @@ use Rattle.scsi_nexus.specs.Place.{IsAt}
 use Rattle.scsi_nexus.proofs.NexusLaws.{eq_by_cmp-nexus, same_nexus-refl}
 use Rattle.scsi_nexus.proofs.PlaceLemmas.{at_place, above_before, find-place}
 use Rattle.unit_attention.specs.declared.kind.Kind.{Kind}
-use Rattle.unit_attention.specs.Queues.{Slots, raised as raised_in, all_raised}
+use Rattle.unit_attention.specs.declared.kind.Kind.TheVariants.{ReservationsPreempted, ReservationsReleased}
+use Rattle.unit_attention.specs.Queues.{Slots, raised as raised_in, all_raised, for_other, for_others}
 use Rattle.permit_tables.specs.Pairs.{key_in}
-use Rattle.pr_core.specs.Acts.{Act}
-use Rattle.pr_core.specs.State.{State, Keys}
+use Rattle.permit_tables.specs.declared.res_type.ResType.{ResType}
+use Rattle.permit_tables.specs.Types.{is_registrants_only}
+use Rattle.pr_core.specs.Acts.{Act, Register, Reserve, Release, Clear, Move}
+use Rattle.pr_core.specs.Targets.{is_among}
+use Rattle.pr_core.specs.State.{State, Keys, registrants, is_sole_holder, res_type}
 use Rattle.pr_core.specs.Table.{IsProper}
-use Rattle.pr_core.specs.Outcome.{told, raised_for}
+use Rattle.pr_core.specs.Outcome.{told, is_releasing, raised, raised_for}
 
 -- the registered nexuses that pass a test, with one more of them
 pub passing_more : (p : Nexus → Bool) (x : Keys) (i : ℕ) (d : Nexus × ℕ) → i < length x
@@ -70,10 +74,10 @@ pub told_none : (f : Nexus → Option (Nexus × Kind)) (q : Slots) (x : Keys) (i
     → all_told f q (drop i x) ≡ all_told f q (drop (i + 1) x)
 told_none f q x i d lt is = ap (all_told f q) (drop_more x i d lt) ∙ ap (λ o. all_raised q (cons_option o (filter_map f (map (λ (e : Nexus × ℕ). e.0) (drop (i + 1) x))))) is
 
--- an act that tells nobody anything changes no slot
-pub told_nobody : (f : Nexus → Option (Nexus × Kind)) → ((n : Nexus) → f n ≡ None) → (q : Slots) (x : Keys) → all_told f q x ≡ q
-told_nobody f none q [] = refl
-told_nobody f none q (e ∷ x) = ap (λ o. all_raised q (cons_option o (filter_map f (map (λ (e : Nexus × ℕ). e.0) x)))) (none e.0) ∙ told_nobody f none q x
+-- nothing said of each nexus is nothing said
+said_nothing : (ns : List Nexus) → filter_map {Y = Nexus × Kind} (λ n. None) ns ≡ []
+said_nothing [] = refl
+said_nothing (n ∷ ns) = said_nothing ns
 
 -- what the attention of an act is for another nexus than its sender
 pub raised_for_other : (v : State) (s : Nexus) (a : Act) (n : Nexus) → same_nexus n s ≡ false → raised_for v s a n ≡ option_map (λ kind. (n, kind)) (told v s a n)
@@ -88,3 +92,73 @@ untold v s a n h =
       | true ↦ raised_for_sender v s a n
       | false ↦ λ apart. raised_for_other v s a n apart ∙ ap (option_map (λ kind. (n, kind))) h
     ] refl
+
+-- where f and g say the same of each nexus, they say the same of all
+said_alike : (f g : Nexus → Option (Nexus × Kind)) → ((n : Nexus) → f n ≡ g n) → (ns : List Nexus) → filter_map f ns ≡ filter_map g ns
+said_alike f g same [] = refl
+said_alike f g same (n ∷ ns) = ap (λ o. cons_option o (filter_map f ns)) (same n) ∙ ap (cons_option (g n)) (said_alike f g same ns)
+
+one_said : (n : Nexus) (kind : Kind) (m : Bool) → cond {A = Option (Nexus × Kind)} m None (Some (n, kind)) ≡ option_map (λ k. (n, k)) (cond m None (Some kind))
+one_said n kind true = refl
+one_said n kind false = refl
+
+other_told : (v : State) (s : Nexus) (a : Act) (named : List Nexus) (kind : Kind) (n : Nexus) → told v s a n ≡ cond (is_among n named) None (Some kind) → for_other s named kind n ≡ raised_for v s a n
+other_told v s a named kind n says =
+    elim (same_nexus n s) as (λ (b : Bool). same_nexus n s ≡ b → for_other s named kind n ≡ raised_for v s a n) [
+      | true ↦ λ same. ap (λ (b : Bool). cond {A = Option (Nexus × Kind)} (b || is_among n named) None (Some (n, kind))) same ∙ sym (raised_for_sender v s a n same)
+      | false ↦ λ apart. ap (λ (b : Bool). cond {A = Option (Nexus × Kind)} (b || is_among n named) None (Some (n, kind))) apart ∙ one_said n kind (is_among n named) ∙ sym (raised_for_other v s a n apart ∙ ap (option_map (λ k. (n, k))) says)
+    ] refl
+
+-- an act that tells each registered nexus the same kind, but for its sender and those that are named
+others_told : (v : State) (s : Nexus) (a : Act) (named : List Nexus) (kind : Kind) → ((n : Nexus) → told v s a n ≡ cond (is_among n named) None (Some kind)) → for_others s named kind (registrants v) ≡ raised v s a
+others_told v s a named kind says = said_alike (for_other s named kind) (raised_for v s a) (λ n. other_told v s a named kind n (says n)) (registrants v)
+
+-- an act that tells nobody anything
+none_told : (v : State) (s : Nexus) (a : Act) → ((n : Nexus) → told v s a n ≡ None) → raised v s a ≡ []
+none_told v s a says = said_alike (raised_for v s a) (λ n. None) (λ n. untold v s a n (says n)) (registrants v) ∙ said_nothing (registrants v)
+
+-- a CLEAR tells all others the same
+pub clear_told : (v : State) (s : Nexus) (a : Act) → a ≡ Clear → for_others s [] ReservationsPreempted (registrants v) ≡ raised v s a
+clear_told v s a is = subst (λ (b : Act). for_others s [] ReservationsPreempted (registrants v) ≡ raised v s b) (sym is) (others_told v s Clear [] ReservationsPreempted (λ n. refl))
+
+-- a RELEASE that releases does too, and another tells nobody anything
+pub release_told : (v : State) (s : Nexus) (a : Act) {code : ℕ} → a ≡ Release code → is_releasing v s a ≡ true → for_others s [] ReservationsReleased (registrants v) ≡ raised v s a
+release_told v s a {code} is =
+    subst (λ (b : Act). is_releasing v s b ≡ true → for_others s [] ReservationsReleased (registrants v) ≡ raised v s b) (sym is)
+    (λ h. others_told v s (Release code) [] ReservationsReleased (λ n. ap (λ (b : Bool). cond {A = Option Kind} b (Some ReservationsReleased) None) h))
+
+pub release_untold : (v : State) (s : Nexus) (a : Act) {code : ℕ} → a ≡ Release code → is_releasing v s a ≡ false → raised v s a ≡ []
+release_untold v s a {code} is =
+    subst (λ (b : Act). is_releasing v s b ≡ false → raised v s b ≡ []) (sym is)
+    (λ h. none_told v s (Release code) (λ n. ap (λ (b : Bool). cond {A = Option Kind} b (Some ReservationsReleased) None) h))
+
+releasing : (a b c m : Bool) → (a && b && c) ≡ true → cond (a && b && c && not m) (Some ReservationsReleased) None ≡ cond m None (Some ReservationsReleased)
+releasing true true true true h = refl
+releasing true true true false h = refl
+releasing true true false m h = absurd cc
+releasing true false c m h = absurd cc
+releasing false b c m h = absurd cc
+
+keeping : (a b c m : Bool) → (a && b && c) ≡ false → cond (a && b && c && not m) (Some ReservationsReleased) None ≡ None
+keeping true true true m h = absurd cc
+keeping true true false m h = refl
+keeping true false c m h = refl
+keeping false b c m h = refl
+
+-- so does a REGISTER, but for those that it names
+pub register_told : (v : State) (s : Nexus) (a : Act) {k : ℕ} {targets : List Nexus} → a ≡ Register k targets → is_releasing v s a ≡ true → for_others s targets ReservationsReleased (registrants v) ≡ raised v s a
+register_told v s a {k} {targets} is =
+    subst (λ (b : Act). is_releasing v s b ≡ true → for_others s targets ReservationsReleased (registrants v) ≡ raised v s b) (sym is)
+    (λ h. others_told v s (Register k targets) targets ReservationsReleased (λ n. releasing (k == 0) (is_registrants_only (res_type v)) (list_any (is_sole_holder v) targets) (is_among n targets) h))
+
+pub register_untold : (v : State) (s : Nexus) (a : Act) {k : ℕ} {targets : List Nexus} → a ≡ Register k targets → is_releasing v s a ≡ false → raised v s a ≡ []
+register_untold v s a {k} {targets} is =
+    subst (λ (b : Act). is_releasing v s b ≡ false → raised v s b ≡ []) (sym is)
+    (λ h. none_told v s (Register k targets) (λ n. keeping (k == 0) (is_registrants_only (res_type v)) (list_any (is_sole_holder v) targets) (is_among n targets) h))
+
+-- RESERVE and REGISTER AND MOVE tell nobody anything
+pub reserve_untold : (v : State) (s : Nexus) (a : Act) {t : ResType} → a ≡ Reserve t → raised v s a ≡ []
+reserve_untold v s a {t} is = subst (λ (b : Act). raised v s b ≡ []) (sym is) (none_told v s (Reserve t) (λ n. refl))
+
+pub move_untold : (v : State) (s : Nexus) (a : Act) {k : ℕ} {d : Nexus} {unreg : Bool} → a ≡ Move k d unreg → raised v s a ≡ []
+move_untold v s a {k} {d} {unreg} is = subst (λ (b : Act). raised v s b ≡ []) (sym is) (none_told v s (Move k d unreg) (λ n. refl))

@@ -1,4 +1,4 @@
-ghost use Rattle.std.specs.Prelude.{◌≡◌, ◌==◌, false, option_map};
+ghost use Rattle.std.specs.Prelude.{◌≡◌, option_map};
 ghost use Rattle.pr_core.specs.Acts.{act_shown};
 ghost use Rattle.pr_core.specs.State.{State, key as key_in_state, is_all_held as is_all_held_in, is_taking as is_taking_in, key_after, is_counted};
 ghost use Rattle.pr_core.specs.Outcome.{standing_of, told, raised_for, is_removed};
@@ -104,17 +104,6 @@ impl ReservationAct<'_> {
         ensures { (v : State) → key ≡ key_in_state v nexus → is_taking ≡ is_taking_in v (act_shown self.entry) → is_all_held ≡ is_all_held_in v → result ≡ is_removed v sender (act_shown self.entry) nexus }
     {
         nexus != sender && self.key_after(sender, nexus, key, is_taking, is_all_held) == 0
-    }
-
-    /// Whether the act can tell anybody anything.
-    pub(crate) fn tells(self, standing: Standing) -> bool
-        ensures { result ≡ false → (v : State) (sender nexus : Nexus) → standing ≡ standing_of v sender (act_shown self.entry) → told v sender (act_shown self.entry) nexus ≡ None }
-    {
-        match self {
-            ReservationAct::Clear | ReservationAct::Preempt(_, _) => true,
-            ReservationAct::Register(_, _) | ReservationAct::Release(_) => standing.is_releasing,
-            ReservationAct::Reserve(_) | ReservationAct::Move(_, _, _) => false,
-        }
     }
 
     /// What the act tells a registered nexus with this key that isn't its sender.

@@ -1,14 +1,14 @@
 ghost use Rattle.std.specs.Prelude.{◌≡◌};
-ghost use Rattle.pr_core.specs.State.{is_sole_holder};
+ghost use Rattle.pr_core.specs.State.{is_sole_holder, registrants};
 ghost use Rattle.pr_core.specs.Acts.{act_shown};
 ghost use Rattle.std.specs.List.{list_any};
-ghost use Rattle.unit_attention.specs.Queues.{all_raised};
+ghost use Rattle.unit_attention.specs.Queues.{all_raised, for_others};
 ghost use Rattle.pr_core.specs.Outcome.{is_releasing, standing_of, raised, removed};
 
 use crate::act::{ReservationAct, Standing};
 use crate::state::PrState;
 use scsi_nexus::{Nexus, NexusList};
-use unit_attention::Queues;
+use unit_attention::{Kind, Queues};
 
 impl PrState {
     /// Whether one of these nexuses is the reservation's, where that isn't of an all registrants type.
@@ -60,7 +60,8 @@ impl PrState {
         }
     }
 
-    /// Raises the attentions of an act, ascending by nexus.
+    /// Raises the attentions of an act, ascending by nexus. What a PREEMPT tells a nexus goes by its key; any other act that
+    /// tells anything tells one kind, which one walk over registrations and slots raises.
     pub(crate) fn raise_attentions(
         &self,
         sender: Nexus,
@@ -69,15 +70,42 @@ impl PrState {
     )
         ensures { queues.new ≡ all_raised queues.old (raised self.now sender (act_shown act.entry)) }
     {
-        let standing = self.standing(sender, act);
-        if !act.tells(standing) {
-            return;
+        match act {
+            ReservationAct::Preempt(_, _) => self.raise_by_keys(sender, act, queues),
+            ReservationAct::Clear => {
+                self.raise_for_others(sender, &[], Kind::ReservationsPreempted, queues);
+            }
+            ReservationAct::Register(_, targets) => {
+                if self.is_releasing(sender, act) {
+                    self.raise_for_others(sender, targets, Kind::ReservationsReleased, queues);
+                }
+            }
+            ReservationAct::Release(_) => {
+                if self.is_releasing(sender, act) {
+                    self.raise_for_others(sender, &[], Kind::ReservationsReleased, queues);
+                }
+            }
+            ReservationAct::Reserve(_) | ReservationAct::Move(_, _, _) => {}
         }
+    }
+
+    /// Raises the attentions of an act, each by the key of its nexus.
+    fn raise_by_keys(&self, sender: Nexus, act: ReservationAct<'_>, queues: &mut Queues)
+        ensures { queues.new ≡ all_raised queues.old (raised self.now sender (act_shown act.entry)) }
+    {
+        let standing = self.standing(sender, act);
         for (nexus, key) in self.registrations() {
             if let Some(kind) = act.raised(sender, *nexus, *key, standing) {
                 queues.raise(*nexus, kind);
             }
         }
+    }
+
+    /// Raises an attention for the registered nexuses, all but a sender and some that are named.
+    fn raise_for_others(&self, sender: Nexus, named: &[Nexus], kind: Kind, queues: &mut Queues)
+        ensures { queues.new ≡ all_raised queues.old (for_others sender named.now kind (registrants self.now)) }
+    {
+        queues.raise_others(self.registrations(), sender, named, kind);
     }
 
     /// The nexuses that another's act unregisters, ascending.

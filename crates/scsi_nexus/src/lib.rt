@@ -13,5 +13,5 @@ pub use laws::nexus_rows;
 pub use layout::TRANSPORT_ID_LENGTH;
 pub use nexus::{Nexus, TARGET_PORTS};
 pub use nexus_list::{LIST_CAPACITY, ListFull, NexusList};
-pub use place::{place_near, place_of};
+pub use place::{order_of, place_near, place_of};
 pub use transport_id::{TransportId, TransportIdFault, transport_id_reads_back};

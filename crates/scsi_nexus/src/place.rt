@@ -25,9 +25,9 @@ pub fn place_of<V>(entries: &[(Nexus, V)], nexus: Nexus) -> Result<usize, usize>
     Err(low)
 }
 
-/// The order of two nexuses. A command looks up several, and tests in turn take fewer instructions there than the derived
-/// order, which compares the ports in any case.
-fn order_of(a: Nexus, b: Nexus) -> Ordering
+/// The order of two nexuses. A command looks up several, and a walk over two lists compares many: tests in turn take fewer
+/// instructions there than the derived order, which compares the ports in any case.
+pub fn order_of(a: Nexus, b: Nexus) -> Ordering
     ensures { result ≡ nexus_cmp a b }
 {
     if a.sas < b.sas {

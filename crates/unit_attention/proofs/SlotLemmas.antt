@@ -22,7 +22,7 @@ both true b h k = k
 both false b h k = absurd h
 
 -- as many new elements as there were take the place of all
-refill-whole : {X : Type 0} (xs ws : List X) → length ws ≡ length xs → refill (length xs) xs ws ≡ ws
+pub refill-whole : {X : Type 0} (xs ws : List X) → length ws ≡ length xs → refill (length xs) xs ws ≡ ws
 refill-whole xs ws h = ap (λ k. take k (ws ++ drop (length ws) xs)) (sym h) ∙ take-append_seam ws (drop (length ws) xs)
 
 pub found_at : (n : Nexus) (q : Slots) (r : Result ℕ ℕ) → IsPlaceOf n q r → IfOk r (λ place. IsSlotAt q n place)
@@ -33,14 +33,18 @@ pub absent_at : (n : Nexus) (q : Slots) (r : Result ℕ ℕ) → IsPlaceOf n q r
 absent_at n q (Ok i) h = tt
 absent_at n q (Err i) h = find-no_place n q i h.0 h.1 h.2
 
--- what the code wrote at the place of a nexus is its change
-pub changed_at : (n : Nexus) (q : Slots) (i : ℕ) (e : Nexus × List Kind) (f : List Kind → List Kind) (ks : List Kind) → (i < length q) × IsAbove n q i × IsAt n q i → IsSlotAt q n i → ks ≡ f (get_or q i e).1
-    → refill (length q) q (set q i ((get_or q i e).0, ks)) ≡ with_change q n f
-changed_at n q i e f ks h slot is =
-    refill-whole q (set q i ((get_or q i e).0, ks)) (length-set q i ((get_or q i e).0, ks))
-    ∙ set-place n ks q i e h.0 h.1 h.2
+-- what is written at the place of a nexus is its change
+pub set_at : (n : Nexus) (q : Slots) (i : ℕ) (e : Nexus × List Kind) (f : List Kind → List Kind) (ks : List Kind) → (i < length q) × IsAbove n q i × IsAt n q i → IsSlotAt q n i → ks ≡ f (get_or q i e).1
+    → set q i ((get_or q i e).0, ks) ≡ with_change q n f
+set_at n q i e f ks h slot is =
+    set-place n ks q i e h.0 h.1 h.2
     ∙ ap (λ js. put nexus_cmp n js q) is
     ∙ sym (ap (λ (o : Option (List Kind)). elim o [ None ↦ q | Some js ↦ put nexus_cmp n (f js) q ]) (slot e))
+
+-- the same, where the code wrote it to the slice of the whole
+pub changed_at : (n : Nexus) (q : Slots) (i : ℕ) (e : Nexus × List Kind) (f : List Kind → List Kind) (ks : List Kind) → (i < length q) × IsAbove n q i × IsAt n q i → IsSlotAt q n i → ks ≡ f (get_or q i e).1
+    → refill (length q) q (set q i ((get_or q i e).0, ks)) ≡ with_change q n f
+changed_at n q i e f ks h slot is = refill-whole q (set q i ((get_or q i e).0, ks)) (length-set q i ((get_or q i e).0, ks)) ∙ set_at n q i e f ks h slot is
 
 -- the same, over the fields x of the whole and the slice s that the code wrote to
 pub changed_in : (n : Nexus) (x s q : Slots) (i : ℕ) (e : Nexus × List Kind) (f : List Kind → List Kind) (ks : List Kind) → s ≡ x → x ≡ q → (i < length q) × IsAbove n q i × IsAt n q i → IsSlotAt q n i → ks ≡ f (get_or s i e).1

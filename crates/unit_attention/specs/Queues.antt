@@ -1,9 +1,9 @@
 -- The lists of all nexuses that had contact with a unit, ascending by nexus, each with what waits for it.
-use Rattle.std.specs.Prelude.{◌≡◌, ℕ, Bool, if◌then◌else◌, List, [], ◌∷◌, map, slice_index_or, Option, None, Some, is_some, option_and_then}
-use Rattle.std.specs.List.{fold}
+use Rattle.std.specs.Prelude.{◌≡◌, ℕ, Bool, ◌||◌, if◌then◌else◌, List, [], ◌∷◌, map, slice_index_or, Option, None, Some, is_some, option_and_then}
+use Rattle.std.specs.List.{fold, filter_map, list_any}
 use Rattle.std.specs.FinMap.{find, put}
 use Rattle.scsi_nexus.specs.declared.nexus.Nexus.{Nexus}
-use Rattle.scsi_nexus.specs.Order.{nexus_cmp}
+use Rattle.scsi_nexus.specs.Order.{nexus_cmp, same_nexus}
 use Rattle.unit_attention.specs.declared.kind.Kind.{Kind}
 use Rattle.unit_attention.specs.declared.kind.Kind.TheVariants.{PowerOn, BusDeviceReset, NexusLoss}
 use Rattle.unit_attention.specs.Pending.{with_kind, without_kind, oldest_reset, oldest_other}
@@ -37,6 +37,18 @@ raised q n k = with_change q n (λ ks. with_kind ks k)
 -- attentions raised one after another
 abbrev pub all_raised : Slots → List (Nexus × Kind) → Slots
 all_raised q attentions = fold (λ slots e. raised slots e.0 e.1) q attentions
+
+-- whether a nexus is the sender, or one of those that are named
+abbrev pub is_excepted : Nexus → List Nexus → Nexus → Bool
+is_excepted s named n = same_nexus n s || list_any (same_nexus n) named
+
+-- the attention of a kind for a nexus, unless it is excepted
+abbrev pub for_other : Nexus → List Nexus → Kind → Nexus → Option (Nexus × Kind)
+for_other s named k n = if is_excepted s named n then None else Some (n, k)
+
+-- the attentions of a kind for these nexuses, all but a sender and some that are named
+abbrev pub for_others : Nexus → List Nexus → Kind → List Nexus → List (Nexus × Kind)
+for_others s named k ns = filter_map (for_other s named k) ns
 
 abbrev pub cleared : Slots → Nexus → Kind → Slots
 cleared q n k = with_change q n (λ ks. without_kind ks k)

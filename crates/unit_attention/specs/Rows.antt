@@ -3,7 +3,7 @@ use Rattle.std.specs.Prelude.{◌≡◌, false, [], ◌∷◌, None, Some}
 use Rattle.scsi_nexus.specs.declared.nexus.Nexus.{Nexus}
 use Rattle.unit_attention.specs.declared.kind.Kind.TheVariants.{PowerOn, BusDeviceReset, NexusLoss, MediumChanged, ModeParametersChanged, LogParametersChanged, ReservationsPreempted, ReservationsReleased, RegistrationsPreempted}
 use Rattle.unit_attention.specs.Pending.{with_kind, without_kind, oldest_reset, oldest_other, is_reset}
-use Rattle.unit_attention.specs.Queues.{Slots, slot_limit, slot_of, has_slot, contacted, raised, cleared, lost, was_reset, first_reset_of, first_other_of}
+use Rattle.unit_attention.specs.Queues.{Slots, slot_limit, slot_of, has_slot, contacted, raised, all_raised, for_others, cleared, lost, was_reset, first_reset_of, first_other_of}
 
 abbrev pub a : Nexus
 a = record { sas = 0x500000000000000A; port = 1 }
@@ -48,6 +48,11 @@ pub record SlotRows : Type 0 where
   pub raised_for_one : raised (contacted one_slot b) a ReservationsReleased ≡ (a, MediumChanged ∷ ReservationsReleased ∷ []) ∷ (b, PowerOn ∷ []) ∷ []
   pub cleared_for_one : cleared (contacted one_slot b) b PowerOn ≡ (a, MediumChanged ∷ []) ∷ (b, []) ∷ []
   pub one_is_lost : lost (contacted one_slot b) a ≡ (a, MediumChanged ∷ NexusLoss ∷ []) ∷ (b, PowerOn ∷ []) ∷ []
+  -- one condition for all others: neither the sender nor one that is named
+  pub for_all_others : for_others b [] ReservationsReleased (a ∷ b ∷ []) ≡ (a, ReservationsReleased) ∷ []
+  pub for_a_stranger_too : for_others b [] ReservationsPreempted (a ∷ []) ≡ (a, ReservationsPreempted) ∷ []
+  pub but_for_the_named : for_others b (a ∷ []) ReservationsReleased (a ∷ b ∷ []) ≡ []
+  pub raised_for_each : all_raised (contacted one_slot b) ((a, ReservationsReleased) ∷ (b, NexusLoss) ∷ []) ≡ (a, MediumChanged ∷ ReservationsReleased ∷ []) ∷ (b, PowerOn ∷ NexusLoss ∷ []) ∷ []
   -- a reset is told to each slot
   pub all_are_reset : was_reset (contacted one_slot b) ≡ (a, MediumChanged ∷ BusDeviceReset ∷ []) ∷ (b, PowerOn ∷ BusDeviceReset ∷ []) ∷ []
   -- what a nexus is told first

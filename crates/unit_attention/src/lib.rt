@@ -3,6 +3,7 @@
 
 mod kind;
 mod laws;
+mod others;
 mod pending;
 mod queues;
 

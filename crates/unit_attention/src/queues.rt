@@ -1,4 +1,5 @@
 use crate::kind::Kind;
+use crate::others::raise_in;
 use crate::pending::Pending;
 use arrayvec::ArrayVec;
 use scsi_nexus::{Nexus, place_near, place_of};
@@ -37,10 +38,12 @@ impl Model for Queues {
 }
 
 impl Queues {
-    ghost use Rattle.std.specs.Prelude.{◌≡◌, ◌≤◌, ◌==◌, ◌↔◌, false, [], map, length, OnOk, OnErr, IsErr, IfOk, None};
+    ghost use Rattle.std.specs.Prelude.{T, ◌≡◌, ◌≤◌, ◌==◌, ◌↔◌, false, [], map, length, OnOk, OnErr, IsErr, IfOk, None};
     ghost use Rattle.std.specs.Option.{option_copied};
+    ghost use Rattle.std.specs.FinMap.{is_sorted};
+    ghost use Rattle.scsi_nexus.specs.Order.{nexus_cmp};
     ghost use Rattle.scsi_nexus.specs.Place.{IsPlaceOf};
-    ghost use Rattle.unit_attention.specs.Queues.{slot_limit, IsSlotAt, slot_of, has_slot, contacted, raised, cleared, lost, was_reset, first_reset_of, first_other_of};
+    ghost use Rattle.unit_attention.specs.Queues.{slot_limit, IsSlotAt, slot_of, has_slot, contacted, raised, for_others, all_raised, cleared, lost, was_reset, first_reset_of, first_other_of};
 
     /// No slot is used.
     pub fn new() -> Queues
@@ -144,6 +147,20 @@ impl Queues {
             }
             Err(place) => self.next = place,
         }
+    }
+
+    /// Raises a condition for the nexuses of entries that ascend by nexus, all but a sender and some that are named.
+    pub fn raise_others<V>(
+        &mut self,
+        entries: &[(Nexus, V)],
+        sender: Nexus,
+        named: &[Nexus],
+        kind: Kind,
+    )
+        requires { T (is_sorted nexus_cmp entries.now) }
+        ensures { self.new ≡ all_raised self.old (for_others sender named.now kind (map (λ e. e.0) entries.now)) }
+    {
+        raise_in(self.slots.as_mut_slice(), entries, sender, named, kind);
     }
 
     /// Takes a reported condition off a nexus's list.

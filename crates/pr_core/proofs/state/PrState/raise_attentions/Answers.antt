@@ -1,40 +1,31 @@
-use Rattle.std.proofs.Common.{ℕ, ◌+◌, drop, sym, ap, ◌∙◌}
-use Rattle.std.specs.Prelude.{option_map}
-use Rattle.std.proofs.lemmas.List.{at_drop_all}
-use Rattle.unit_attention.specs.Queues.{Slots}
-use Rattle.scsi_nexus.specs.declared.nexus.Nexus.{Nexus}
+use Rattle.std.proofs.Common.{sym, ap, ◌∙◌, inl, inr}
+use Rattle.unit_attention.specs.Queues.{all_raised}
 use Rattle.pr_core.specs.Acts.{act_shown}
-use Rattle.pr_core.specs.Outcome.{raised_for}
-use Rattle.pr_core.proofs.RaisedLaws.{all_told, told_nobody, untold, told_some, told_none, key_read}
+use Rattle.pr_core.proofs.RaisedLaws.{clear_told, release_told, release_untold, register_told, register_untold, reserve_untold, move_untold}
 use Rattle.pr_core.proofs.state.PrState.raise_attentions.Goals as goal
-use Rattle.pr_core.proofs.state.PrState.raise_attentions.Goals.{in-Some, in_default}
 
-pub returns-then-not-tells : goal.returns-then-not-tells
-returns-then-not-tells c =
-    let told = raised_for c.args.self.now c.args.sender (act_shown c.args.act) in
-    sym (told_nobody told (λ n. untold c.args.self.now c.args.sender (act_shown c.args.act) n (c.tells.ensures c.if-not-tells.true c.args.self.now c.args.sender n c.standing-standing.ensures)) c.args.queues.now c.args.self.now.keys)
+pub returns-in-Clear : goal.returns-in-Clear
+returns-in-Clear c = c.raise_for_others.ensures ∙ ap (all_raised c.args.queues.now) (clear_told c.args.self.now c.args.sender (act_shown c.args.act) (ap act_shown c.in-Clear.is))
 
-pub returns : goal.returns
-returns c =
-    let told = raised_for c.args.self.now c.args.sender (act_shown c.args.act) in
-    sym (at_drop_all (all_told told c.loop-nexus.queues) c.registrations-nexus-items.result.now c.loop-nexus.nexus-index c.loop-nexus-test.false)
-    ∙ c.loop-nexus.invariant ∙ ap (all_told told c.args.queues.now) c.registrations-nexus-items.ensures.list
+pub returns-else-is_releasing : goal.returns-else-is_releasing
+returns-else-is_releasing c =
+    sym (ap (all_raised c.args.queues.now) (register_untold c.args.self.now c.args.sender (act_shown c.args.act) (ap act_shown c.in-Register.is) (sym c.is_releasing.ensures ∙ c.if-is_releasing.false)))
 
-pub loop-nexus-preserved : goal.loop-nexus-preserved
-loop-nexus-preserved c =
-    let v = c.args.self.now in
-    let told = raised_for v c.args.sender (act_shown c.args.act) in
-    let entries = c.registrations-nexus-items.result.now in
-    let none : Nexus × ℕ = record { 0 = record { sas = 0; port = 0 }; 1 = 0 } in
-    let rest = drop (c.loop-nexus.nexus-index + 1) entries in
-    let is = c.raised.ensures v (key_read entries v.keys c.loop-nexus.nexus-index none c.registrations-nexus-items.ensures.list c.registrations-nexus-items.ensures.ascending c.loop-nexus-test.true) c.standing-standing.ensures in
-    elim c.match-raised.branch [
-      | in-Some w ↦
-          ap (λ (q : Slots). all_told told q rest) (w.queues-is ∙ w.raise.ensures)
-          ∙ sym (told_some told c.loop-nexus.queues entries c.loop-nexus.nexus-index none (_, w.in-Some.kind) c.loop-nexus-test.true (sym is ∙ ap (option_map (λ kind. (_, kind))) w.in-Some.is))
-          ∙ c.loop-nexus.invariant
-      | in_default w ↦
-          ap (λ (q : Slots). all_told told q rest) w.queues-is
-          ∙ sym (told_none told c.loop-nexus.queues entries c.loop-nexus.nexus-index none c.loop-nexus-test.true (sym is ∙ ap (option_map (λ kind. (_, kind))) w.in_default.is))
-          ∙ c.loop-nexus.invariant
+pub returns-else-is_releasing-2 : goal.returns-else-is_releasing-2
+returns-else-is_releasing-2 c =
+    sym (ap (all_raised c.args.queues.now) (release_untold c.args.self.now c.args.sender (act_shown c.args.act) (ap act_shown c.in-Release.is) (sym c.is_releasing-in-Release.ensures ∙ c.if-is_releasing-2.false)))
+
+pub returns-in-Reserve : goal.returns-in-Reserve
+returns-in-Reserve c =
+    elim c.in-Reserve.is [
+      | inl h ↦ sym (ap (all_raised c.args.queues.now) (reserve_untold c.args.self.now c.args.sender (act_shown c.args.act) (ap act_shown h.1)))
+      | inr h ↦ sym (ap (all_raised c.args.queues.now) (move_untold c.args.self.now c.args.sender (act_shown c.args.act) (ap act_shown h.3)))
     ]
+
+pub returns-then-is_releasing : goal.returns-then-is_releasing
+returns-then-is_releasing c =
+    c.raise_for_others-then-is_releasing.ensures ∙ ap (all_raised c.args.queues.now) (register_told c.args.self.now c.args.sender (act_shown c.args.act) (ap act_shown c.in-Register.is) (sym c.is_releasing.ensures ∙ c.if-is_releasing.true))
+
+pub returns-then-is_releasing-2 : goal.returns-then-is_releasing-2
+returns-then-is_releasing-2 c =
+    c.raise_for_others-then-is_releasing-2.ensures ∙ ap (all_raised c.args.queues.now) (release_told c.args.self.now c.args.sender (act_shown c.args.act) (ap act_shown c.in-Release.is) (sym c.is_releasing-in-Release.ensures ∙ c.if-is_releasing-2.true))

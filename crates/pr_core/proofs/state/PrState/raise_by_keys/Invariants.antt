@@ -2,7 +2,7 @@ use Rattle.std.proofs.Common.{◌≡◌, drop}
 use Rattle.pr_core.specs.Acts.{act_shown}
 use Rattle.pr_core.specs.Outcome.{raised_for}
 use Rattle.pr_core.proofs.RaisedLaws.{all_told}
-use Rattle.pr_core.proofs.state.PrState.raise_attentions.Given as goal
+use Rattle.pr_core.proofs.state.PrState.raise_by_keys.Given as goal
 
 -- what is left to tell, told now, gives what all gives
 abbrev pub invariant-loop-nexus : goal.invariant-loop-nexus
