@@ -1,6 +1,6 @@
 -- Hexadecimal digits block by block.
 use Rattle.std.proofs.Common.{◌≡◌, ℕ, zero, suc, ◌+◌, ◌-◌, ◌*◌, ◌/◌, ◌%◌, ◌<◌, ◌≤◌, List, [], ◌∷◌, ◌++◌, length, take, drop, replicate, get_or, map, Option, Some, None, Result, Ok, Err, refl, sym, ap, ◌∙◌, append_assoc, arith}
-use Rattle.std.proofs.lemmas.List.{drop_more, get_or-map, get_or_append_left, length-append, take_at}
+use Rattle.std.proofs.lemmas.List.{append-nil, drop_more, get_or-map, get_or_append_left, length-append, length-drop, take_at}
 use Rattle.std.proofs.lemmas.Simd.{Each1-all, Each1-zip2, Each2-splat, get_or-replicate, get_or-zip2, get_or_narrower, get_or_wider, length-replicate}
 use lib.Lanes.{Each1, digits_l, number_l, zip2}
 use Rattle.hex.specs.Hex.{decode_of, decode_pairs, digit_or_error, hex_digit_value, ◌>>=◌}
@@ -86,6 +86,25 @@ pub block_fails : (front rest block tail : List ℕ) (whole : Option (List ℕ))
     → None ≡ hex_bytes (decode_of block) → behind front (hex_bytes (decode_of rest)) ≡ whole → None ≡ whole
 block_fails front rest block tail whole cut eb et er none h =
     ap (λ r. behind front (both r (hex_bytes (decode_of tail)))) none ∙ ap (behind front) (sym (two_parts rest block tail cut eb et er)) ∙ h
+
+-- TWO BLOCKS
+
+-- the first of them is read
+pub first_read : (s first front back : List ℕ) → s ≡ front ++ back → length front % 2 ≡ 0 → length back % 2 ≡ 0 → length s % 2 ≡ 0
+    → Some first ≡ hex_bytes (decode_of front) → behind first (hex_bytes (decode_of back)) ≡ hex_bytes (decode_of s)
+first_read s first front back cut ef eb es read = block_read [] first s front back first (hex_bytes (decode_of s)) cut ef eb es read refl (none_read (hex_bytes (decode_of s)))
+
+no_items : (l : List ℕ) → length l ≡ 0 → l ≡ []
+no_items [] e = refl
+no_items (x ∷ xs) e = absurd (omega arith)
+
+-- bytes over the first half of a room, and then over the second
+pub both_copied : (zeros first second left right : List ℕ) → length zeros ≡ 32 → length first ≡ 32 → left ≡ first → right ≡ second
+    → take 32 (left ++ zeros) ++ (right ++ drop 32 (drop 32 (left ++ zeros))) ≡ first ++ second
+both_copied zeros first second left right lz lf el er =
+    let room = first ++ zeros in
+    let none : drop 32 (drop 32 room) ≡ [] = no_items (drop 32 (drop 32 room)) (omega (arith, length-drop 32 (drop 32 room), length-drop 32 room, length-append first zeros)) in
+    (λ i. take 32 (el i ++ zeros) ++ (er i ++ drop 32 (drop 32 (el i ++ zeros)))) ∙ (λ i. take_at first zeros 32 lf i ++ (second ++ none i)) ∙ ap (λ (l : List ℕ). first ++ l) (append-nil second)
 
 -- A BLOCK THAT IS FILLED UP
 

@@ -8,3 +8,4 @@ pub mod Pieces
 pub mod Lanes
 pub mod BlockLemmas
 pub mod ShortLines
+pub mod WholeWords

@@ -18,18 +18,18 @@ use Rattle.script_lines.specs.Text.{pieces}
 use Rattle.script_lines.specs.Words.{hex_bytes, hex_in, is_digit, is_port, nexus_at, nexus_in, unit_in}
 use Rattle.script_lines.proofs.Pairs.{no_digits, other_character}
 
-abbrev IsOther : ℕ → Type 0
+abbrev pub IsOther : ℕ → Type 0
 IsOther x = eqb x 32 ≡ false
 
 -- without a space
-abbrev Free : List ℕ → Type 0
+abbrev pub Free : List ℕ → Type 0
 Free word = All IsOther word
 
 no_space : (x : ℕ) (b : Bool) → eqb x 32 ≡ b → is_hex_digit x ≡ true → eqb x 32 ≡ false
 no_space x false e hex = e
 no_space x true e hex = absurd (let h : is_hex_digit 32 ≡ true = subst (λ n. is_hex_digit n ≡ true) (eqb-true x 32 e) hex in cc)
 
-digits_free : (s : List ℕ) → list_all is_hex_digit s ≡ true → Free s
+pub digits_free : (s : List ℕ) → list_all is_hex_digit s ≡ true → Free s
 digits_free [] h = All-nil IsOther
 digits_free (x ∷ xs) h =
     let parts = and_parts (is_hex_digit x) (list_all is_hex_digit xs) h in
@@ -52,7 +52,7 @@ sas_digits : (b : Bool) (s : List ℕ) (port : ℕ) (nexus : Nexus) → list_all
 sas_digits true s port nexus e h = e
 sas_digits false s port nexus e h = absurd (let none : nexus_at None port ≡ Ok nexus = subst (λ r. nexus_at r port ≡ Ok nexus) (no_digits s e) h in cc)
 
-hex_digits : (b : Bool) (limit : ℕ) (s bytes : List ℕ) → list_all is_hex_digit s ≡ b → hex_in limit s ≡ Ok bytes → list_all is_hex_digit s ≡ true
+pub hex_digits : (b : Bool) (limit : ℕ) (s bytes : List ℕ) → list_all is_hex_digit s ≡ b → hex_in limit s ≡ Ok bytes → list_all is_hex_digit s ≡ true
 hex_digits true limit s bytes e h = e
 hex_digits false limit s bytes e h = absurd (let bad = other_character limit s e in cc)
 

@@ -12,7 +12,7 @@ use Rattle.frames.specs.Limits.{command_data_limit}
 use Rattle.scsi_cdb.specs.declared.profile.Profile.{Profile}
 use Rattle.scsi_nexus.specs.declared.nexus.Nexus.{Nexus}
 use Rattle.script_lines.specs.Limits.{line_limit}
-use Rattle.script_lines.specs.Text.{pieces}
+use Rattle.script_lines.specs.Text.{pieces, pieces_after}
 use Rattle.script_lines.specs.Words.{nexus_in, unit_in, hex_in}
 
 -- an event, without where its bytes lie in memory
@@ -45,6 +45,10 @@ abbrev pub words_in : List (List ℕ) → Option CommandWords
 words_in (nexus ∷ lun ∷ cdb ∷ []) = Some (record { nexus = nexus; lun = lun; cdb = cdb; bytes = None })
 words_in (nexus ∷ lun ∷ cdb ∷ bytes ∷ []) = Some (record { nexus = nexus; lun = lun; cdb = cdb; bytes = Some bytes })
 words_in _ = None
+
+-- the words where the last of them, all that stands behind the third, is cut at its spaces
+abbrev pub words_cut : Words → Option CommandWords
+words_cut w = words_in (w.nexus.now ∷ w.lun.now ∷ w.cdb.now ∷ pieces_after 32 w.«data»)
 
 -- the ? of the logic
 infixl 10 ◌>>=◌

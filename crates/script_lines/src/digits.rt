@@ -1,4 +1,4 @@
-//! Hexadecimal digits to bytes: those of data a block at a time, the few of a CDB one by one.
+//! Hexadecimal digits to bytes: those of data two blocks at a time, the few of a CDB one by one.
 
 ghost use Rattle.std.specs.Prelude.{◌≡◌, ◌+◌, ◌*◌, ◌%◌, ◌<◌, ◌≤◌, ◌++◌, ℕ, Ok, None, drop, length, IfOk, IfSome};
 ghost use Rattle.std.specs.Bool.{MatchBool};
@@ -10,6 +10,9 @@ ghost use Rattle.script_lines.specs.Words.{behind, hex_bytes};
 use crate::blocks::{BLOCK, bytes_of_block};
 use std::alloc::{AllocError, Global};
 
+/// How many digits of data are read for each time that their bytes are added.
+const BLOCKS: usize = 2 * BLOCK;
+
 /// The bytes of pairs of hexadecimal digits, in either case, if all are digits.
 pub fn decoded(alloc: Global, word: &[u8]) -> Result<Option<Vec<u8>>, AllocError>
     requires { length word.now % 2 ≡ 0 }
@@ -17,15 +20,52 @@ pub fn decoded(alloc: Global, word: &[u8]) -> Result<Option<Vec<u8>>, AllocError
 {
     let mut bytes = Vec::with_capacity(alloc, word.len() / 2)?;
     let mut rest = word;
-    'pieces: while rest.len() >= BLOCK {
-        let (block, behind) = rest.split_at(BLOCK);
-        let Some(read) = bytes_of_block(block) else {
+    'pieces: while rest.len() >= BLOCKS {
+        let (blocks, behind) = rest.split_at(BLOCKS);
+        let Some(read) = bytes_of_blocks(blocks) else {
             return Ok(None);
         };
         bytes.extend_from_slice(&read)?;
         rest = behind;
     }
-    add_rest(bytes, rest)
+    add_last(bytes, rest)
+}
+
+/// The bytes of two blocks of hexadecimal digits, in either case, if all are digits.
+#[inline(always)]
+fn bytes_of_blocks(blocks: &[u8]) -> Option<[u8; BLOCK]>
+    requires { length blocks.now ≡ 128 }
+    ensures { result ≡ hex_bytes (decode_of blocks.now) }
+{
+    let (front, back) = blocks.split_at(BLOCK);
+    let Some(first) = bytes_of_block(front) else {
+        return None;
+    };
+    let Some(second) = bytes_of_block(back) else {
+        return None;
+    };
+    let mut bytes = [0; BLOCK];
+    bytes[..BLOCK / 2].copy_from_slice(&first);
+    bytes[BLOCK / 2..].copy_from_slice(&second);
+    Some(bytes)
+}
+
+/// The bytes with those of fewer digits than two blocks have behind them.
+fn add_last(bytes: Vec<u8>, digits: &[u8]) -> Result<Option<Vec<u8>>, AllocError>
+    requires even { length digits.now % 2 ≡ 0 }
+    requires few { length digits.now < 128 }
+    ensures { IfOk result (λ read. option_map (λ (all : Vec ℕ). all.items) read ≡ behind bytes.items (hex_bytes (decode_of digits.now))) }
+{
+    if digits.len() < BLOCK {
+        return add_rest(bytes, digits);
+    }
+    let (block, rest) = digits.split_at(BLOCK);
+    let Some(read) = bytes_of_block(block) else {
+        return Ok(None);
+    };
+    let mut all = bytes;
+    all.extend_from_slice(&read)?;
+    add_rest(all, rest)
 }
 
 /// The bytes with those of fewer digits than a block has behind them, by a block that begins with these.

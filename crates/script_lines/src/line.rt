@@ -1,12 +1,13 @@
-ghost use Rattle.std.specs.Prelude.{◌≡◌, ◌∷◌, ◌++◌, [], ℕ, List, Ok, OnOk, IfErr, IfSome};
+ghost use Rattle.std.specs.Prelude.{◌≡◌, ◌∷◌, ◌++◌, [], ℕ, List, None, Some, Ok, OnOk, IfErr, IfSome, MatchOption};
 ghost use Rattle.scsi_cdb.specs.declared.profile.Profile.{Profile};
 ghost use denote.Ref.{Bor};
 ghost use Rattle.std.specs.Option.{option_map};
-ghost use Rattle.script_lines.specs.declared.line.LineError.TheVariants.{NoMemory};
+ghost use Rattle.script_lines.specs.declared.line.LineError.TheVariants.{NoMemory, Fault};
+ghost use Rattle.script_input.specs.declared.line_fault.LineFault.TheVariants.{WordCount};
 ghost use Rattle.script_lines.specs.Limits.{line_limit};
 ghost use Rattle.script_lines.specs.Words.{Gives, Fails};
 ghost use Rattle.script_lines.specs.Text.{pieces, pieces_after};
-ghost use Rattle.script_lines.specs.Lines.{Command, event_in, said, some_said, words_seen, words_in, bytes_in, command_in, loss_in, sole_unit_in, other_in, line_in};
+ghost use Rattle.script_lines.specs.Lines.{Command, event_in, said, some_said, words_seen, words_cut, words_in, bytes_in, command_in, loss_in, sole_unit_in, other_in, line_in};
 ghost use Rattle.script_lines.specs.Script.{TakesLine, saids};
 
 use crate::cutting::{cut, is_end};
@@ -65,7 +66,7 @@ impl From<AllocError> for LineError {
     }
 }
 
-/// The words of a command's line.
+/// The words of a command's line, of which `data` is all that stands behind the third: the fourth word, if it has no space in it.
 #[derive(Clone, Copy)]
 pub struct Words<'a> {
     pub nexus: &'a [u8],
@@ -221,6 +222,23 @@ fn take_command(
     let Some(words) = words_of(first, others) else {
         return Err(LineError::Fault(LineFault::WordCount));
     };
+    match take_words(alloc, profile, events, words) {
+        Ok(()) => Ok(()),
+        Err(error) => Err(fault_of(words, error)),
+    }
+}
+
+/// Adds the command of words, with their data taken as one word.
+fn take_words(
+    alloc: Global,
+    profile: Profile,
+    events: &mut Events,
+    words: Words,
+) -> Result<(), LineError>
+    ensures ok { OnOk result (TakesLine (saids events.old) (saids events.new)
+        (some_said (command_in profile (Some (words_seen words.entry))))) }
+    ensures err { IfErr result (λ error. Fails error (command_in profile (Some (words_seen words.entry)))) }
+{
     let nexus = nexus_of(words.nexus)?;
     let lun = unit_of(words.lun)?;
     let cdb = cdb_of(words.cdb)?;
@@ -235,29 +253,36 @@ fn take_command(
     Ok(())
 }
 
-/// The three or four words of a line, the first of them its nexus.
+/// The three words of a line, the first of them its nexus, and what stands behind them. That is long where it is data, and is not
+/// searched for a space here: data in hexadecimal has none.
 pub fn words_of<'a>(nexus: &'a [u8], others: Option<&'a [u8]>) -> Option<Words<'a>>
-    ensures { option_map words_seen result ≡ words_in (nexus.now ∷ pieces_after 32 others.entry) }
+    ensures { MatchOption result (words_in (nexus.now ∷ pieces_after 32 others.entry) ≡ None)
+        (λ words. words_in (nexus.now ∷ pieces_after 32 others.entry) ≡ words_cut words) }
 {
     let (lun, rest) = cut(others?, b' ');
-    let (cdb, rest) = cut(rest?, b' ');
-    let Some(rest) = rest else {
-        return Some(Words {
-            nexus,
-            lun,
-            cdb,
-            data: None,
-        });
+    let (cdb, data) = cut(rest?, b' ');
+    Some(Words {
+        nexus,
+        lun,
+        cdb,
+        data,
+    })
+}
+
+/// The error of a line whose words fail with one, their data taken as one word: a fifth word comes before all other faults (profile).
+#[cold]
+#[inline(never)]
+pub fn fault_of(words: Words, error: LineError) -> LineError
+    ensures { MatchOption (words_cut words.entry) (result ≡ Fault WordCount) (λ _. result ≡ error) }
+{
+    let Some(data) = words.data else {
+        return error;
     };
-    let (data, rest) = cut(rest, b' ');
-    match rest {
-        None => Some(Words {
-            nexus,
-            lun,
-            cdb,
-            data: Some(data),
-        }),
-        Some(_) => None,
+    let (_, rest) = cut(data, b' ');
+    if is_end(rest) {
+        error
+    } else {
+        LineError::Fault(LineFault::WordCount)
     }
 }
 

@@ -1,5 +1,5 @@
-ghost use Rattle.std.specs.Prelude.{◌≡◌};
-ghost use Rattle.script_lines.specs.Lines.{words_in};
+ghost use Rattle.std.specs.Prelude.{◌≡◌, Some};
+ghost use Rattle.script_lines.specs.Lines.{words_seen, words_in};
 ghost use Rattle.script_lines.specs.Requests.{request_value, request_value_by, command_request_in, request_line_in};
 ghost use Rattle.script_lines.specs.Text.{pieces};
 ghost use Rattle.script_lines.specs.Words.{Gives};
@@ -7,7 +7,7 @@ ghost use Rattle.std.specs.Prelude.{◌∷◌, []};
 
 use crate::client_request::ClientRequest;
 use crate::cutting::cut;
-use crate::line::{LineError, data_of, most_line, sole_unit_of, words_of};
+use crate::line::{LineError, Words, data_of, fault_of, most_line, sole_unit_of, words_of};
 use crate::words::{bytes_of, unit_of};
 use script_input::LineFault;
 use scsi_cdb::Profile;
@@ -45,6 +45,16 @@ fn command_of(alloc: Global, profile: Profile, line: &[u8]) -> Result<ClientRequ
     let Some(words) = words_of(b"", Some(line)) else {
         return Err(LineError::Fault(LineFault::WordCount));
     };
+    match command_by(alloc, profile, words) {
+        Ok(command) => Ok(command),
+        Err(error) => Err(fault_of(words, error)),
+    }
+}
+
+/// The command of words, with their data taken as one word.
+fn command_by(alloc: Global, profile: Profile, words: Words) -> Result<ClientRequest, LineError>
+    ensures { Gives request_value result (command_request_in profile (Some (words_seen words.entry))) }
+{
     let lun = unit_of(words.lun)?;
     let cdb = bytes_of(alloc, words.cdb, MAX_CDB)?;
     let bytes = data_of(alloc, profile, words.data)?;

@@ -13,4 +13,4 @@ pub returns-in_default : goal.returns-in_default
 returns-in_default c = block_fails _ c.pieces.rest.now _ _ _ c.split_at.ensures.by_index.0 (omega arith) (omega arith) c.pieces.invariant.1 c.in_default.ensures c.pieces.invariant.0
 
 pub returns : goal.returns
-returns c = rw (← c.pieces.invariant.0) c.add_rest.ensures
+returns c = rw (← c.pieces.invariant.0) c.add_last.ensures
