@@ -1,7 +1,9 @@
 -- Hexadecimal digits, two at a time, and block by block.
-use Rattle.std.proofs.Common.{◌≡◌, ℕ, zero, suc, ◌+◌, ◌*◌, ◌/◌, ◌%◌, ◌<◌, Bool, true, ◌==◌, ◌&&◌, List, [], ◌∷◌, ◌++◌, length, take, slice_index, bit_and, inl, inr, refl, sym, ap, ◌∙◌, append_assoc, arith}
+use Rattle.std.proofs.Common.{◌≡◌, ℕ, zero, suc, ◌+◌, ◌*◌, ◌/◌, ◌%◌, ◌<◌, ◌≤◌, Bool, true, ◌==◌, ◌&&◌, List, [], ◌∷◌, ◌++◌, length, take, drop, slice_index, bit_and, inl, inr, refl, sym, ap, ◌∙◌, append_assoc, take-add, arith}
 use Rattle.std.proofs.lemmas.Bool.{and_parts, cases_lt, eqb-true}
-use Rattle.std.proofs.lemmas.List.{take_at}
+use Rattle.std.proofs.lemmas.List.{take_at, take_all}
+use Rattle.std.proofs.lemmas.Simd.{length-chunk, take_more_put_chunk}
+use lib.Lanes.{put_chunk}
 use Rattle.hex.proofs.HexLemmas.{length-encode_with}
 use Rattle.hex.specs.Hex.{encode_with, encode_lower, lower_digits}
 
@@ -58,3 +60,19 @@ pub block_begins : (bytes more block digits : List ℕ) → block ≡ bytes ++ m
 block_begins bytes more block digits is text =
     ap (take (2 * length bytes)) (text ∙ ap encode_lower is ∙ encode-append lower_digits bytes more)
     ∙ take_at (encode_lower bytes) (encode_lower more) (2 * length bytes) (length-encode_with lower_digits bytes)
+
+-- one block further, where the digits of the bytes before it stand in their room
+pub filled_more : (room digits bytes : List ℕ) (at next : ℕ) → digits ≡ encode_lower (take 32 (drop at bytes)) → next ≡ at + 32 → next ≤ length bytes → length room ≡ 2 * length bytes
+    → take (2 * at) room ≡ encode_lower (take at bytes) → take (2 * next) (put_chunk (2 * at) room digits) ≡ encode_lower (take next bytes)
+filled_more room digits bytes at next is e within long h =
+    let block = take 32 (drop at bytes) in
+    let size : length digits ≡ 2 * 32 = ap length is ∙ length-encode_with lower_digits block ∙ ap (λ n. 2 * n) (length-chunk at 32 bytes (omega arith)) in
+    take_more_put_chunk (2 * at) room digits (2 * next) (omega arith) (omega arith)
+    ∙ (λ i. h i ++ is i)
+    ∙ sym (encode-append lower_digits (take at bytes) block)
+    ∙ ap encode_lower (sym (take-add at 32 bytes) ∙ ap (λ n. take n bytes) (sym e))
+
+-- the room is full where the digits of all bytes stand in it
+pub filled : (room bytes : List ℕ) (at : ℕ) → at ≡ length bytes → length room ≡ 2 * length bytes → take (2 * at) room ≡ encode_lower (take at bytes) → room ≡ encode_lower bytes
+filled room bytes at all long h =
+    sym (take_all (2 * at) room (omega arith)) ∙ h ∙ ap encode_lower (take_all at bytes (omega arith))
