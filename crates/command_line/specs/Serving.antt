@@ -19,6 +19,7 @@ use Rattle.program_options.specs.declared.serve_until.ServeUntil.{ServeUntil}
 use Rattle.program_options.specs.declared.serve_until.ServeUntil.TheVariants.{Sessions, InputEnds}
 use Rattle.program_options.specs.declared.without_library.WithoutLibrary.TheVariants.{Make, Refuse}
 use Rattle.given_options.specs.Switches.{is_on}
+use Rattle.given_options.specs.declared.options.GivenMedia.{GivenMedia}
 use Rattle.given_options.specs.declared.options.GivenOptions.{GivenOptions}
 use Rattle.given_options.specs.declared.options.GivenPlace.{GivenPlace}
 use Rattle.given_options.specs.declared.options.GivenRecords.{GivenRecords}
@@ -47,11 +48,14 @@ abbrev pub is_drained : GivenRecords → GivenPlace → (has_portals : Bool) →
 is_drained records place has_portals =
     is_on records.drain || (has_portals && not ((is_on records.keep_records || is_on records.spans) || is_some place.sessions))
 
--- in its folder, if it has one, where a library is made if that is asked for
-abbrev pub media_of : (folder : Option (String Global)) → (new_library : Option Bool) → GivenLibrary → GivenProfile → Option MediaOptions
-media_of None new_library given profile = None
-media_of (Some folder) new_library given profile =
-    Some (record { folder = folder; without = if is_on new_library then Make else Refuse; given = given; profile = profile })
+-- in its folder, if it has one, where a library is made if that is asked for; another program is waited for only if that is asked for
+abbrev pub media_in : (folder : Option (String Global)) → GivenMedia → GivenLibrary → GivenProfile → Option MediaOptions
+media_in None media given profile = None
+media_in (Some folder) media given profile =
+    Some (record { folder = folder; without = if is_on media.new_library then Make else Refuse; wait = unwrap_or media.wait 0; given = given; profile = profile })
+
+abbrev pub media_of : GivenMedia → GivenLibrary → GivenProfile → Option MediaOptions
+media_of media given profile = media_in media.folder media given profile
 
 -- in JSON, if nothing else is asked for
 abbrev pub record_file_of : (path : Option (String Global)) → Option RecordFormat → Option RecordFileOptions
@@ -81,7 +85,7 @@ pub record IsServedBy (given : GivenOptions) (serving : ServeOptions) : Type 0 w
   pub metrics : serving.metrics ≡ given.metrics.address
   pub readers : IfSome serving.metrics (IsGuarded (is_on given.metrics.is_open))
   pub counted : IfSome serving.metrics (λ _. IsTrue (serving.drain || is_some serving.record_file))
-  pub media : serving.media ≡ media_of given.media.folder given.media.new_library given.library given.profile
+  pub media : serving.media ≡ media_of given.media given.library given.profile
   pub memory : serving.memory ≡ given.media.memory
   pub until : serving.until ≡ until_of given.place
   pub drain : serving.drain ≡ is_drained given.records given.place (is_some given.iscsi.portals)

@@ -1,7 +1,7 @@
 //! The options of the program's commands, in tables, and how `clap` is given them.
 
 use clap::{Arg, ArgAction, Command, value_parser};
-use given_options::MOST_SESSIONS;
+use given_options::{MOST_SESSIONS, MOST_WAIT};
 use program_options::{LibraryOptions, ServeTimes};
 use scsi_nexus::TARGET_PORTS;
 use std::alloc::{AllocError, Global};
@@ -146,7 +146,7 @@ pub(crate) const PROFILE_ALONE: [OptionRow; 1] = [OptionRow {
 }];
 
 /// Where a library is saved, and how much memory it takes.
-pub(crate) const MEDIA: [OptionRow; 3] = [
+pub(crate) const MEDIA: [OptionRow; 4] = [
     OptionRow {
         name: "media",
         value: OptionValue::Text("DIR"),
@@ -160,6 +160,13 @@ pub(crate) const MEDIA: [OptionRow; 3] = [
         presence: Presence::Optional,
         excludes: None,
         help: "Makes a library in the folder if it has none, and the folder if there is none; without this option such a folder is refused",
+    },
+    OptionRow {
+        name: "wait-for-folder",
+        value: OptionValue::Number32(SECONDS, 0, MOST_WAIT),
+        presence: Presence::Default("0"),
+        excludes: None,
+        help: "How many seconds a start waits while another program has the folder; 0 to be refused at once",
     },
     OptionRow {
         name: "memory",

@@ -256,6 +256,7 @@ fn given_media_of(alloc: Global, command: &ArgMatches) -> Result<GivenMedia, Com
     Ok(GivenMedia {
         folder: text_of(alloc, command.get_str("media"))?,
         new_library: switch_of(command, "new-library"),
+        wait: said_number32(command, "wait-for-folder"),
         memory,
     })
 }

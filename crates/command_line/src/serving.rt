@@ -12,8 +12,8 @@ ghost use Rattle.command_line.specs.Tasks.{IsDoable, IsIscsiOptions, IsMediaOpti
 
 use crate::task::{IscsiOptions, MediaOptions, RecordFileOptions, ServeAim, ServeOptions, Task};
 use given_options::{
-    GivenIscsi, GivenMetrics, GivenOptions, GivenPlace, GivenRecordFile, GivenRecords, GivenTimes,
-    open_portal,
+    GivenIscsi, GivenMedia, GivenMetrics, GivenOptions, GivenPlace, GivenRecordFile, GivenRecords,
+    GivenTimes, open_portal,
 };
 use output_lines::Audit;
 use program_options::{
@@ -127,8 +127,8 @@ fn serve_options_of(alloc: Global, given: GivenOptions) -> Result<ServeOptions, 
         control,
         metrics,
         iscsi,
-        media: media_options_of(media.folder, media.new_library, library, profile),
         memory: media.memory,
+        media: media_options_of(media, library, profile),
         until,
         drain,
         record_file,
@@ -164,24 +164,24 @@ fn metrics_of(
 
 /// Where a library is kept, if it is to be, and what it has to agree with.
 fn media_options_of(
-    folder: Option<String>,
-    new_library: Option<bool>,
+    media: GivenMedia,
     given: GivenLibrary,
     profile: GivenProfile,
 ) -> Option<MediaOptions>
     requires { AreGivenInRange given }
     ensures media { IfSome result IsMediaOptions }
-    ensures value { result ≡ media_of folder new_library given profile }
+    ensures value { result ≡ media_of media given profile }
 {
-    let without = if new_library.unwrap_or(false) {
+    let without = if media.new_library.unwrap_or(false) {
         WithoutLibrary::Make
     } else {
         WithoutLibrary::Refuse
     };
-    match folder {
+    match media.folder {
         Some(folder) => Some(MediaOptions {
             folder,
             without,
+            wait: media.wait.unwrap_or(0),
             given,
             profile,
         }),

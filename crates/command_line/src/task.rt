@@ -99,6 +99,8 @@ pub struct MediaOptions {
     pub folder: String,
     /// What is done where it has no library.
     pub without: WithoutLibrary,
+    /// For how many seconds a start waits while another program has it.
+    pub wait: u32,
     /// What the command line and the file of configuration say of the library.
     pub given: GivenLibrary,
     /// The same of its profile.

@@ -5,7 +5,6 @@ mod fault;
 mod form;
 mod key_fault;
 mod laws;
-mod lines;
 mod reading;
 mod text_fault;
 mod texts;

@@ -9,7 +9,6 @@ ghost use Rattle.configuration_file.specs.Says.{Says, SaysIscsi, SaysLibrary, Sa
 
 use crate::fault::ConfigurationFault;
 use crate::key_fault::KeyFault;
-use crate::lines::line_of_key;
 use crate::text_fault::TextFault;
 use crate::texts::{hosts_at, portals_at};
 use crate::values::{
@@ -18,13 +17,14 @@ use crate::values::{
 };
 use given_options::{
     GivenIscsi, GivenMedia, GivenMetrics, GivenOptions, GivenPlace, GivenRecordFile, GivenRecords,
-    GivenTimes, MOST_SESSIONS, SERVE_KEYS, ServeKey,
+    GivenTimes, MOST_SESSIONS, MOST_WAIT, SERVE_KEYS, ServeKey,
 };
 use program_options::{GivenLibrary, GivenProfile, LibraryOptions, ServeTimes};
 use std::alloc::{AllocError, Global};
 use std::fs::{self, Files};
 use std::io::{self, Read};
 use toml::Table;
+use toml_lines::first_line_with;
 
 /// How many bytes a configuration may have (profile).
 const MOST_BYTES: u64 = 1_048_576;
@@ -85,6 +85,11 @@ fn line_of_fault(alloc: Global, text: &[u8], fault: &KeyFault) -> Result<usize, 
         KeyFault::Unknown(name) => line_of_key(alloc, text, name.as_str()),
         KeyFault::Value(key, _) => line_of_key(alloc, text, key.text()),
     }
+}
+
+/// The line on which a text has a key.
+fn line_of_key(alloc: Global, text: &[u8], key: &str) -> Result<usize, AllocError> {
+    first_line_with(alloc, text, |table: &Table| table.get(key).is_some())
 }
 
 /// The options that a table gives.
@@ -167,6 +172,7 @@ fn media_in(alloc: Global, table: &Table) -> Result<GivenMedia, KeyFault>
     Ok(GivenMedia {
         folder: text_at(alloc, table, ServeKey::Media)?,
         new_library: switch_at(table, ServeKey::NewLibrary)?,
+        wait: number_at(table, ServeKey::WaitForFolder, 0, MOST_WAIT)?,
         memory: memory_size_at(alloc, table)?,
     })
 }

@@ -24,6 +24,7 @@ profile = \"hosts\"
 library-id = \"1a2b3c4d\"
 media = \"/m\"
 new-library = true
+wait-for-folder = 90
 memory = \"4G\"
 socket = \"/s\"
 control = \"/c\"
@@ -67,6 +68,7 @@ fn reads_every_option(rt: HostRuntime) -> Result<(), Fail> {
         })
     );
     assert_eq!(rt; given.media.new_library, Some(true));
+    assert_eq!(rt; given.media.wait, Some(90));
     assert_eq!(rt; given.media.memory, Some(4_294_967_296));
     assert!(rt; given.place.control.is_some());
     assert!(rt; given.metrics.address.is_some());

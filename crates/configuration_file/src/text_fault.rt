@@ -1,9 +1,9 @@
 use crate::key_fault::KeyFault;
-use crate::lines::line_of;
 use std::alloc::AllocError;
 use std::fmt;
 use thiserror::Error;
 use toml::de;
+use toml_lines::line_of;
 
 /// Why a text isn't one of a configuration. Lines are counted from 1.
 #[derive(Debug, Drop, Error)]

@@ -5,7 +5,7 @@ use Rattle.given_options.specs.Given.{is_given}
 use Rattle.given_options.specs.Rules.{judged_options, rule_text}
 use Rattle.given_options.specs.Winning.{winning_library, winning_options, winning_profile, winning_records, winning_times}
 use Rattle.scsi_cdb.specs.declared.profile.Profile.TheVariants as scsi
-use Rattle.given_options.specs.declared.key.ServeKey.TheVariants.{Drain, Format, Hosts, Iscsi, LibraryId, Metrics, MetricsOpen, NoAuthentication, Records, Sessions, Spans, VolumeSize, Workers}
+use Rattle.given_options.specs.declared.key.ServeKey.TheVariants.{Drain, Format, Hosts, Iscsi, LibraryId, Media, Metrics, MetricsOpen, NoAuthentication, Records, Sessions, Spans, VolumeSize, WaitForFolder, Workers}
 use Rattle.program_options.specs.declared.record_format.RecordFormat.TheVariants.{Text}
 use Rattle.given_options.specs.declared.options.GivenOptions.{GivenOptions}
 use Rattle.given_options.specs.declared.rule.OptionRule.TheVariants.{Excludes, Needs}
@@ -15,6 +15,7 @@ pub record KeysNamed : Type 0 where
   pub host : option_text Hosts ≡ codes "host"
   pub size : key_text VolumeSize ≡ codes "volume-size"
   pub size_option : option_text VolumeSize ≡ codes "volume-size"
+  pub wait : option_text WaitForFolder ≡ codes "wait-for-folder"
   pub number : option_text LibraryId ≡ codes "library-id"
   pub drain_or_spans : rule_text (Excludes Drain Spans) ≡ codes "vtl: --drain cannot be used with --spans"
   pub host_without_portal : rule_text (Needs Hosts Iscsi) ≡ codes "vtl: --host needs --iscsi"
@@ -39,7 +40,7 @@ nothing = record {
   library = record { drives = None; slots = None; import_exports = None; volumes = None };
   volume_size = None;
   profile = record { profile = None; library_number = None };
-  media = record { folder = None; new_library = None; memory = None };
+  media = record { folder = None; new_library = None; wait = None; memory = None };
   place = record { socket = None; control = None; sessions = None; workers = None };
   metrics = record { address = None; is_open = None };
   iscsi = record { portals = None; target_name = None; hosts = None; any_host = None; multipath = None; chap = None; chap_digests = None; no_authentication = None };
@@ -74,6 +75,10 @@ without_authentication = record nothing {
 abbrev pub formed : GivenOptions
 formed = record nothing { record_file = record { path = None; format = Some Text } }
 
+-- a wait for a folder that isn't given
+abbrev pub waiting : GivenOptions
+waiting = record nothing { media = record { folder = None; new_library = None; wait = Some 30; memory = None } }
+
 -- readers of metrics that are given nowhere
 abbrev pub opened : GivenOptions
 opened = record nothing { metrics = record { address = None; is_open = Some true } }
@@ -86,5 +91,6 @@ pub record OptionsThatGoTogether : Type 0 where
   pub one_of_each_source : judged_options (winning_options drained with_spans) ≡ Err (Excludes Drain Spans)
   pub term_of_each_source : judged_options (winning_options for_a_session by_workers) ≡ Err (Excludes Workers Sessions)
   pub form_of_no_file : judged_options formed ≡ Err (Needs Format Records)
+  pub without_folder : judged_options waiting ≡ Err (Needs WaitForFolder Media)
   pub without_metrics : judged_options opened ≡ Err (Needs MetricsOpen Metrics)
   pub without_portals : judged_options without_authentication ≡ Err (Needs NoAuthentication Iscsi)

@@ -30,6 +30,7 @@ abbrev pub winning_media : (first second : GivenMedia) → GivenMedia
 winning_media first second = record {
   folder = option_or first.folder second.folder;
   new_library = option_or first.new_library second.new_library;
+  wait = option_or first.wait second.wait;
   memory = option_or first.memory second.memory;
 }
 

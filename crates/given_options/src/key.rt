@@ -13,6 +13,7 @@ pub enum ServeKey {
     LibraryId,
     Media,
     NewLibrary,
+    WaitForFolder,
     Memory,
     Socket,
     Control,
@@ -42,7 +43,7 @@ pub enum ServeKey {
 }
 
 /// All of them.
-pub const SERVE_KEYS: [ServeKey; 35] = [
+pub const SERVE_KEYS: [ServeKey; 36] = [
     ServeKey::Drives,
     ServeKey::Slots,
     ServeKey::Portals,
@@ -52,6 +53,7 @@ pub const SERVE_KEYS: [ServeKey; 35] = [
     ServeKey::LibraryId,
     ServeKey::Media,
     ServeKey::NewLibrary,
+    ServeKey::WaitForFolder,
     ServeKey::Memory,
     ServeKey::Socket,
     ServeKey::Control,
@@ -95,6 +97,7 @@ impl ServeKey {
             ServeKey::LibraryId => "library-id",
             ServeKey::Media => "media",
             ServeKey::NewLibrary => "new-library",
+            ServeKey::WaitForFolder => "wait-for-folder",
             ServeKey::Memory => "memory",
             ServeKey::Socket => "socket",
             ServeKey::Control => "control",

@@ -14,7 +14,7 @@ pub use key::{SERVE_KEYS, ServeKey};
 pub use laws::worked_rows;
 pub use options::{
     GivenIscsi, GivenMedia, GivenMetrics, GivenOptions, GivenPlace, GivenRecordFile, GivenRecords,
-    GivenTimes, MOST_SESSIONS,
+    GivenTimes, MOST_SESSIONS, MOST_WAIT,
 };
 pub use portal_guard::open_portal;
 pub use rule::OptionRule;

@@ -11,6 +11,9 @@ use std::net::SocketAddr;
 /// The most sessions, and the most workers at a place (profile).
 pub const MOST_SESSIONS: u8 = 64;
 
+/// The most seconds for which a start may wait for its folder (profile).
+pub const MOST_WAIT: u32 = 3600;
+
 /// What a source says of how a library is served. It says nothing of what is `None`.
 #[derive(Drop)]
 pub struct GivenOptions {
@@ -38,6 +41,8 @@ pub struct GivenMedia {
     pub folder: Option<String>,
     /// Whether a library is made in a folder that has none.
     pub new_library: Option<bool>,
+    /// For how many seconds a start waits while another program has the folder.
+    pub wait: Option<u32>,
     /// How many bytes of memory its volumes may take together.
     pub memory: Option<u64>,
 }
@@ -140,6 +145,7 @@ impl GivenMedia {
         GivenMedia {
             folder: self.folder.or(other.folder),
             new_library: self.new_library.or(other.new_library),
+            wait: self.wait.or(other.wait),
             memory: self.memory.or(other.memory),
         }
     }
@@ -275,6 +281,7 @@ impl GivenOptions {
             ServeKey::LibraryId => self.profile.library_number.is_some(),
             ServeKey::Media => self.media.folder.is_some(),
             ServeKey::NewLibrary => is_on(self.media.new_library),
+            ServeKey::WaitForFolder => self.media.wait.is_some(),
             ServeKey::Memory => self.media.memory.is_some(),
             ServeKey::Socket => self.place.socket.is_some(),
             ServeKey::Control => self.place.control.is_some(),

@@ -13,7 +13,7 @@ pub enum OptionRule {
 }
 
 /// The rules. Of several that are broken the first is reported.
-const RULES: [OptionRule; 18] = [
+const RULES: [OptionRule; 19] = [
     OptionRule::Excludes(ServeKey::Workers, ServeKey::Sessions),
     OptionRule::Excludes(ServeKey::Sessions, ServeKey::Iscsi),
     OptionRule::Excludes(ServeKey::Drain, ServeKey::Spans),
@@ -24,6 +24,7 @@ const RULES: [OptionRule; 18] = [
     OptionRule::Excludes(ServeKey::NoAuthentication, ServeKey::Chap),
     OptionRule::Needs(ServeKey::Format, ServeKey::Records),
     OptionRule::Needs(ServeKey::NewLibrary, ServeKey::Media),
+    OptionRule::Needs(ServeKey::WaitForFolder, ServeKey::Media),
     OptionRule::Needs(ServeKey::TargetName, ServeKey::Iscsi),
     OptionRule::Needs(ServeKey::Hosts, ServeKey::Iscsi),
     OptionRule::Needs(ServeKey::AnyHost, ServeKey::Iscsi),
