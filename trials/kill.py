@@ -3,15 +3,16 @@
 too, and a third one moves a volume about; at any moment the program is killed (KILL), and started again over the same folder. Each time it
 is seen that
 
-- each image reads as a beginning of what its host had on the tape at some moment since the last filemark that was answered, and has all of
-  that filemark's tape that nothing was written over since;
+- each image is served as a beginning of what its host had on the tape at some moment since the last filemark that was answered, and has all
+  of that filemark's tape that nothing was written over since; what else it had was moved away;
 - `library.toml` names each image once, and the volume that was moved lies where the last answered MOVE MEDIUM, or the one under way, left
 it;
-- the program starts, and reported nothing but tails that were cut off and the socket's file.
+- the program starts, and reported nothing but tails that were cut off or moved away and the socket's file.
 
 Status 0 where all came through, with a line of figures. It takes some two minutes for 300 rounds, and a built program.
 """
 import argparse
+import glob
 import os
 import random
 import re
@@ -27,6 +28,10 @@ import scsi
 from host import Host
 from library import DRIVES, MARK, SLOTS, TAGS, Library, loads, sas_of
 from program import built
+
+
+TAIL = re.compile(
+    r"vtl: \S+\.tap: (a tail of \d+ bytes that was cut off is lost|\d+ bytes that were not known to be on the disk were moved to \S+\.tail\.1)")
 
 
 class Writer(threading.Thread):
@@ -92,7 +97,7 @@ class Writer(threading.Thread):
             at += 1
 
     def look(self, tag, image):
-        """Looks at the objects of the image that the killed server left."""
+        """Looks at the objects of the image that the killed server left, once the next one has moved away what isn't known to be on the disk."""
         if self.fault:
             raise self.fault
         assert len(image) >= self.kept, f"{tag}: {len(image)} objects, and {self.kept} were answered for"
@@ -128,13 +133,15 @@ class Mover(threading.Thread):
 
 
 def tails_told(library):
-    """How many tails were cut off; every other line has to be known."""
+    """How many tails were cut off or moved away; every other line has to be known."""
     count = 0
     for line in library.lines():
-        if re.fullmatch(r"vtl: \S+\.tap: a tail of \d+ bytes that was cut off is lost", line):
+        if TAIL.fullmatch(line):
             count += 1
         else:
             assert line.startswith("vtl: removed "), f"told: {line}"
+    for path in glob.glob(os.path.join(library.folder, "*.tail.*")):
+        os.remove(path)
     return count
 
 
@@ -147,13 +154,11 @@ def load(library):
 
 
 def play(library, rounds, numbers):
-    tapes, place, tails, commands, moves = [[], []], 2, 0, 0, 0
+    writers, place, tails, commands, moves = [], 2, 0, 0, 0
     for _round in range(rounds):
         server = library.start()
         tails += tails_told(library)
-        for number in range(DRIVES):
-            # What is read at a start is what was there.
-            assert library.objects(TAGS[number]) == tapes[number]
+        tapes = tapes_left(library, writers)
         writers = [Writer(server, 1 + number, tapes[number], numbers.random()) for number in range(DRIVES)]
         mover = Mover(server, place, numbers.random())
         threads = [*writers, mover]
@@ -169,10 +174,14 @@ def play(library, rounds, numbers):
         assert sorted(rows) == TAGS and rows[TAGS[0]] == ("data_transfer", 0) and rows[TAGS[1]] == ("data_transfer", 1), rows
         assert rows[TAGS[2]][0] == "storage" and rows[TAGS[2]][1] in mover.places, (rows, mover.places)
         place = rows[TAGS[2]][1]
-        tapes = [writer.look(tag, library.objects(tag)) for writer, tag in zip(writers, TAGS)]
         commands += sum(writer.commands for writer in writers)
         moves += mover.moves
-    return tapes, tails, commands, moves
+    return writers, tails, commands, moves
+
+
+def tapes_left(library, writers):
+    """What the volumes in drives have after a start, which has to be right by what their hosts wrote, if some did."""
+    return [writer.look(tag, library.objects(tag)) for writer, tag in zip(writers, TAGS)] if writers else [[], []]
 
 
 def main():
@@ -187,8 +196,10 @@ def main():
     numbers = random.Random(given.seed)
     print(f"seed {given.seed}", flush=True)
     load(library)
-    tapes, tails, commands, moves = play(library, given.rounds, numbers)
+    writers, tails, commands, moves = play(library, given.rounds, numbers)
     library.start()
+    tails += tails_told(library)
+    tapes = tapes_left(library, writers)
     status = library.stop()
     assert status == 0, f"status {status} at the end"
     for number in range(DRIVES):

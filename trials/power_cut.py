@@ -49,7 +49,7 @@ from recorded_files import STRACE, Connection, File, Record, contents_of, lay_ou
 # What may be reported at a start, next to the line that it serves.
 KNOWN = [
     r"vtl: \S+\.tap: a tail of \d+ bytes that was cut off is lost",
-    r"vtl: \S+\.tap: \d+ bytes that were not known to be on the disk when the machine stopped were moved to \S+\.tail\.\d+",
+    r"vtl: \S+\.tap: \d+ bytes that were not known to be on the disk were moved to \S+\.tail\.\d+",
     r"vtl: removed \S+: nobody listened there",
 ]
 # How many failures keep their folders.

@@ -24,6 +24,8 @@ THREE = HI + MARK + ODD
 NEW = b"\x03\0\0\0new\0\x03\0\0\0"
 # The first volume that a library makes.
 FIRST = "VOL00001.tap"
+# The file whose lock other machines see.
+LOCK = "library.lock"
 
 
 def block(data: bytes) -> bytes:
@@ -68,10 +70,10 @@ def inventory_of(text: str) -> dict[str, tuple[str, int]]:
 class Folder:
     """The folder of a library."""
 
-    def __init__(self, tried: Tried, **files: bytes):
+    def __init__(self, tried: Tried, place: str = "media", **files: bytes):
         """With files of these names, each with the ending of an image."""
         self.tried = tried
-        self.path = pathlib.Path(tried.path("media"))
+        self.path = pathlib.Path(tried.path(place))
         self.path.mkdir(mode=0o700)
         for name, data in files.items():
             self.put(f"{name}.tap", data)
@@ -88,7 +90,8 @@ class Folder:
         return self.bytes_of("library.toml").decode()
 
     def names(self) -> list[str]:
-        return sorted(found.name for found in self.path.iterdir())
+        """The names of its files, but for that of the lock, which each start leaves."""
+        return sorted(found.name for found in self.path.iterdir() if found.name != LOCK)
 
     def path_of(self, name: str) -> str:
         return f"{self.path}/{name}"

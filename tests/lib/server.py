@@ -171,9 +171,9 @@ class Server:
             same("the status", status, 4)
 
 
-def refused(tried: Tried, *words: str) -> tuple[int, str]:
-    """The status and the lines of standard error of a server that doesn't begin."""
-    status, printed, reported = run([tried.program, "serve", *words])
+def refused(tried: Tried, *words: str, environment: dict[str, str] | None = None) -> tuple[int, str]:
+    """The status and the lines of standard error of a server that doesn't begin, with more in its environment if that is given."""
+    status, printed, reported = run([tried.program, "serve", *words], env={**os.environ, **environment} if environment else None)
     same("what is printed", printed, "")
     return status, reported
 

@@ -80,6 +80,8 @@ def written_and_read(tried: Tried) -> None:
 
 
 ONE = '[[volume]]\ntag = "A"\nstorage = 3\n'
+# The same with the profile for hosts.
+HOSTS = SIZE.replace("version = 1", "version = 2") + 'profile = "hosts"\nlibrary = "1A2B3C4D"\n'
 
 
 def second(tag: str, element: str = "") -> str:
@@ -97,7 +99,21 @@ NTH = "of the volumes, counted from 0, number 1:"
 NO_TAG = f"{NTH} no tag of 1 to 32 letters, digits, _ and -"
 # What is wrong with a text, the text, and what is reported after the path of its file.
 WRONG = {
-    "no-toml": ("no TOML", "version = ", "the text is not TOML"),
+    "no-toml": ("no TOML", "version = ", "line 1: the text is not TOML"),
+    "no-toml-line-3": ("no TOML on its third line", "version = 1\n# drives\ndrives\n", "line 3: the text is not TOML"),
+    "not-utf-8": ("no UTF-8", "version = 1\ndrives = 1 # \udcff\n", "line 2: the text is not TOML"),
+    "too-long": ("more than 1 MiB", SIZE + "#" * 1_048_576, "it has more than 1048576 bytes"),
+    "order-in-a-volume": (
+        "an order after a volume, of which it then is a key", f'{SIZE}{ONE}protect = ["A"]\n', "line 8: unknown key protect"),
+    "orders-of-another-name": ("an order of another name", f'{SIZE}protected = [\n  "A",\n]\n', "line 5: unknown key protected"),
+    "volumes": ("volumes of another name", f'{SIZE}\n[[volumes]]\ntag = "A"\nstorage = 3\n', "line 6: unknown key volumes"),
+    "key-of-a-missing-volume": (
+        "a key of a volume that is missing", f'{SIZE}{ONE}[[missing]]\ntag = "B"\nstorage = 2\nnote = "away"\n', "line 11: unknown key note"),
+    "source-of-the-default-profile": (
+        "a source in a library of the default profile", f'{SIZE}[[volume]]\ntag = "A"\ndata_transfer = 0\nsource = {{ storage = 1 }}\n',
+        "line 8: unknown key source"),
+    "key-of-a-source": (
+        "a key of a source", f'{HOSTS}[[volume]]\ntag = "A"\ndata_transfer = 0\nsource = {{ storage = 1, slot = 2 }}\n', "line 10: unknown key slot"),
     "version-0": ("a version before the first", "version = 0\n", "unknown version 0"),
     "version-3": ("a later version", "version = 3\n", "unknown version 3"),
     "no-version": ("no version", "drives = 1\n", "version is missing, or has a bad value"),
@@ -127,10 +143,11 @@ WRONG = {
 def wrong(text: str, words: str) -> typing.Callable[[Tried], None]:
     def play(tried: Tried) -> None:
         folder = Folder(tried, A=HI, B=ODD)
-        folder.put(NAME, text.encode())
+        data = text.encode(errors="surrogateescape")
+        folder.put(NAME, data)
         same("the status and what is reported", folder.refused(), (2, f"vtl: {folder.path_of(NAME)}: {words}\n"))
         same("what is in the folder", folder.names(), ["A.tap", "B.tap", NAME])
-        same("the inventory that is left", folder.inventory(), text)
+        same("whether the inventory is left", folder.bytes_of(NAME) == data, True)
 
     return play
 
@@ -168,7 +185,8 @@ def placed(tried: Tried) -> None:
     folder = Folder(tried, Z=HI, A=HI + MARK, B=ODD, VOL00002=MARK)
     folder.put(NAME, named(4).encode())
     with folder.served("--volumes", "6") as server:
-        same("what is reported", server.reported_lines(), [is_missing(folder, "VOL00001", "storage element 2")])
+        reported = [is_new(folder, "B", "storage element 0"), is_new(folder, "Z", "storage element 3")]
+        same("what is reported", server.reported_lines(), [*reported, is_missing(folder, "VOL00001", "storage element 2")])
         folder.same_image("the volume that is made", "VOL00003.tap", b"")
         host = Host(server)
         host.meets(CHANGER)
@@ -192,6 +210,10 @@ def too_many(tried: Tried) -> None:
 
 def is_missing(folder: Folder, name: str, place: str) -> str:
     return f"vtl: {folder.path_of(f'{name}.tap')}: it is missing: the volume was in {place}"
+
+
+def is_new(folder: Folder, name: str, place: str) -> str:
+    return f"vtl: {folder.path_of(f'{name}.tap')}: it is new here: the volume is in {place}"
 
 
 def lies_so(folder: Folder, reported: list[str], places: dict[int, str], *words: str) -> None:
@@ -231,7 +253,8 @@ def element_taken(tried: Tried) -> None:
     """Where another volume lies in its element by then, it comes into the first free storage element, in the order of tags."""
     folder = Folder(tried, A=HI, B=ODD, C=MARK, VOL00001=b"")
     folder.put(NAME, (SIZE + volume("A", "storage = 2") + missing("C", "storage = 2") + missing("B", "import_export = 0")).encode())
-    lies_so(folder, [], {STORAGE_0 + 2: "A", PORTAL_0: "B", STORAGE_0: "C", STORAGE_0 + 1: "VOL00001"})
+    reported = [is_new(folder, "VOL00001", "storage element 1")]
+    lies_so(folder, reported, {STORAGE_0 + 2: "A", PORTAL_0: "B", STORAGE_0: "C", STORAGE_0 + 1: "VOL00001"})
 
 
 def left_out(tried: Tried) -> None:
@@ -249,7 +272,7 @@ def left_out(tried: Tried) -> None:
         same("what is in the folder", folder.names(), [*with_records("A.tap"), "B.tap", "C.tap", NAME])
     folder.put("B.tap", ODD)
     folder.put("C.tap", MARK)
-    lies_so(folder, [], {DRIVE_0: "A", STORAGE_0: "C", STORAGE_0 + 2: "B"})
+    lies_so(folder, [is_new(folder, "C", "storage element 0")], {DRIVE_0: "A", STORAGE_0: "C", STORAGE_0 + 2: "B"})
 
 
 def none_there(tried: Tried) -> None:
@@ -266,7 +289,7 @@ def none_there(tried: Tried) -> None:
     folder.rename(tried.path("away"))
     folder.write_bytes(b"no folder")
     same("the status and what is reported of a file", refused(tried, *words), (2, reported))
-    reported = f"vtl: device fault\nvtl: cannot make {folder}\n"
+    reported = f"vtl: device fault\nvtl: cannot make {folder}: File exists (os error 17)\n"
     same("the status and what is reported of one that is to be made there", refused(tried, *words, "--new-library"), (4, reported))
 
 
@@ -292,7 +315,7 @@ def folder_away(tried: Tried) -> None:
         folder.path.rename(tried.path("away"))
         folder.path.mkdir()
         host.is_ended_by(CHANGER, f"a5000000{STORAGE_0:04x}{DRIVE_0:04x}00000000")
-        server.reported.wait_for("vtl: the inventory could not be written: disk error\n")
+        server.reported.wait_for("vtl: the inventory could not be written: the path of its folder no longer leads there\n")
         same("what is in the other folder", folder.names(), [])
         same("the inventory of the library", pathlib.Path(tried.path("away"), NAME).read_text(encoding="utf-8"), was)
         folder.path.rmdir()

@@ -5,7 +5,7 @@ import typing
 
 from compare import same
 from folder import HI, ODD, Folder, ended, with_records
-from inventories import DRIVE_0, NAME, SIZE, STORAGE_0, is_missing, lies_so, missing, volume
+from inventories import DRIVE_0, NAME, SIZE, STORAGE_0, is_missing, is_new, lies_so, missing, volume
 from play import Row, Tried
 from program import run
 
@@ -46,7 +46,7 @@ def blank_after_a_kill(tried: Tried) -> None:
     """A start that was cut off had made the file already: the next one takes it as it is."""
     folder = Folder(tried, A=HI, B=b"")
     asks(folder, 'blank = ["B"]', volume("A", "data_transfer = 0"))
-    lies_so(folder, [is_there(folder, "B")], {DRIVE_0: "A", STORAGE_0: "B"})
+    lies_so(folder, [is_there(folder, "B"), is_new(folder, "B", "storage element 0")], {DRIVE_0: "A", STORAGE_0: "B"})
 
 
 def blank_without_room(tried: Tried) -> None:

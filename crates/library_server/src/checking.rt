@@ -105,6 +105,7 @@ fn planned_library<R: AllocGlobal + Files<File = File>, E: Write>(
     let MediaOptions {
         folder,
         without,
+        wait: _,
         given,
         profile,
     } = media;

@@ -11,6 +11,7 @@ mod iscsi_target;
 mod keeping;
 mod laws;
 mod library_tapes;
+mod locked_media;
 mod metrics;
 mod metrics_page;
 mod notice;

@@ -3,12 +3,12 @@
 ghost use Rattle.std.specs.Prelude.{◌<◌, ◌≤◌};
 ghost use Rattle.tape_medium.specs.Limits.{capacity_limit};
 
+use crate::locked_media::LockedMedia;
 use crate::socket_fault::SocketFault;
-use command_line::MediaOptions;
 use library_inventory::{Inventory, LibrarySize, PlacedVolume};
 use library_start::{Device, LibraryFault, StartedVolume, library_of_volumes};
 use media_folder::{
-    FileStore, KeptVolume, LibraryFolder, OpenedFolder, WantedLibrary, open_folder,
+    FileStore, KeptVolume, LibraryFolder, OpenedFolder, begin_inventory, open_folder,
     write_inventory_file,
 };
 use program_options::LibraryProfile;
@@ -19,20 +19,18 @@ use tape_flush::StoreFault;
 use tape_medium::MemoryLimit;
 use target_core::TargetCore;
 
-/// The inventory's file in a folder, which no other process has as long as this lives, with the volumes that are missing, as at the start.
+/// The inventory's file in a folder, with the volumes that are missing, as at the start.
 #[derive(Drop)]
 pub struct FolderInventory<'a> {
     files: &'a HostRuntime,
-    folder: LibraryFolder,
+    folder: &'a LibraryFolder,
     missing: Vec<PlacedVolume>,
 }
 
 impl<'a> InventoryStore for FolderInventory<'a> {
     fn write(&mut self, inventory: &Inventory) -> Result<(), StoreFault> {
-        match write_inventory_file(self.files, &self.folder, inventory, &self.missing) {
-            Ok(()) => Ok(()),
-            Err(_) => Err(StoreFault::Failed),
-        }
+        write_inventory_file(self.files, self.folder, inventory, &self.missing)?;
+        Ok(())
     }
 }
 
@@ -51,7 +49,7 @@ pub(crate) struct SavedLibrary<'a> {
 pub(crate) fn saved_library<'a, E: Write>(
     alloc: Global,
     files: &'a HostRuntime,
-    media: MediaOptions,
+    media: &'a LockedMedia,
     volume_size: u64,
     memory: &MemoryLimit,
     errors: &mut E,
@@ -59,26 +57,16 @@ pub(crate) fn saved_library<'a, E: Write>(
     requires some { 0 < volume_size }
     requires within { volume_size ≤ capacity_limit }
 {
-    let MediaOptions {
-        folder,
-        without,
-        given,
-        profile,
-    } = media;
-    let wanted = WantedLibrary {
-        without,
-        given,
-        profile,
-    };
+    let LockedMedia { folder, wanted } = media;
     let OpenedFolder {
-        folder,
         profile,
         size,
         volumes,
         missing,
-    } = open_folder(files, folder, wanted, volume_size, memory, errors)?;
+        inventory: write,
+    } = open_folder(files, folder, *wanted, volume_size, memory, errors)?;
     let inventory = inventory_of(alloc, profile, size, &volumes)?;
-    write_inventory_file(files, &folder, &inventory, &missing)?;
+    let is_written = begin_inventory(files, folder, &inventory, &missing, write, errors)?;
     let (started, images) = parted(alloc, volumes)?;
     let core = library_of_volumes(alloc, profile, size, started).map_err(fault_of)?;
     let store = FolderInventory {
@@ -86,10 +74,11 @@ pub(crate) fn saved_library<'a, E: Write>(
         folder,
         missing,
     };
-    Ok(SavedLibrary {
-        core,
-        keeper: MediaKeeper::new(alloc, profile, size, images, store)?,
-    })
+    let keeper = MediaKeeper::new(alloc, profile, size, images, store)?;
+    if !is_written {
+        keeper.note_unwritten_inventory();
+    }
+    Ok(SavedLibrary { core, keeper })
 }
 
 /// Where volumes are, and from where they came.

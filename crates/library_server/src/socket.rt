@@ -9,6 +9,7 @@ ghost use Rattle.library_server.specs.Serving.{telling_of, term_of};
 
 use crate::control::ControlSocket;
 use crate::iscsi_target::{PortalTarget, target_of};
+use crate::locked_media::locked_media;
 use crate::metrics::{MetricsSocket, open_metrics};
 use crate::notice::{Notice, tell};
 use crate::places::{Places, open_places};
@@ -81,6 +82,7 @@ pub fn serve<
         log,
     } = serving;
     let mut made = target_of(rt, iscsi)?;
+    let media = locked_media(rt, files, media, errors)?;
     let sink = sink_of(rt.alloc(), files, record_file, &made.target.access.hosts)?;
     let service = ServiceOptions {
         until,
@@ -96,7 +98,7 @@ pub fn serve<
         telling: telling_of(log),
     };
     let memory = memory_limit(rt.alloc(), memory)?;
-    match media {
+    match &media {
         Some(media) => {
             let size = options.volume_size;
             let kept = saved_library(rt.alloc(), files, media, size, &memory, errors)?;

@@ -8,11 +8,13 @@ use Rattle.media_folder.specs.declared.check_fault.CheckFault.TheVariants as che
 -- something is to be put right before; there was no memory; or the folder fails
 abbrev pub folder_status : FolderFault → ℕ
 folder_status folder.NoMemory = 3
-folder_status (folder.CannotMake path) = 4
-folder_status (folder.CannotRead path) = 4
-folder_status (folder.CannotWrite path) = 4
-folder_status (folder.CannotLock path) = 4
+folder_status (folder.CannotMake path error) = 4
+folder_status (folder.CannotRead path error) = 4
+folder_status (folder.CannotWrite path error) = 4
+folder_status (folder.CannotLock path error) = 4
 folder_status (folder.Moved path) = 4
+folder_status (folder.LockLost path) = 4
+folder_status (folder.NoProc path) = 4
 folder_status (folder.InUse path) = 2
 folder_status (folder.NoLibrary path) = 2
 folder_status (folder.BadInventory path fault) = 2

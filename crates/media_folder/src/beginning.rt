@@ -1,19 +1,16 @@
-//! A volume's file, once it is written on: what may have come back after what was on the disk is moved away, and its record begins.
+//! A volume's file, once it is written on: what isn't known to be on the disk is moved away, and its record begins.
 ghost use Rattle.std.specs.Prelude.{◌≡◌};
+ghost use Rattle.media_folder.specs.declared.store.FileAccess.TheVariants.{ReadOnly};
 
-use crate::boot::BootId;
-use crate::fault::FolderFault;
-use crate::inventory_file::sync_folder;
-use crate::library_folder::LibraryFolder;
+use crate::names::FilePaths;
 use crate::notice::{Notice, tell};
-use crate::record::{RecordFile, RecordOf, SyncedRecord, record_path};
-use crate::rights::NEW_FILE;
-use crate::store::{FileAccess, FileStore, Surroundings, new_path};
+use crate::record::RecordFile;
+use crate::small_file::{make_new, remove_if_there};
+use crate::store::{FileAccess, FileStore, Surroundings};
 use crate::trust::Trust;
-use std::alloc::Global;
-use std::fs::{self, File, Files, OpenFile, OpenOptions};
-use std::io::{self, BufReader, ErrorKind, Read, Seek, SeekFrom, Write};
-use std::os::unix::fs::OpenOptionsExt;
+use std::alloc::{AllocError, Global};
+use std::fs::{File, Files, OpenFile};
+use std::io::{self, BufReader, ErrorKind, Seek, SeekFrom, Write};
 
 /// So many tails of one volume are kept at most.
 const MOST_TAILS: u32 = 1_000_000;
@@ -21,101 +18,104 @@ const MOST_TAILS: u32 = 1_000_000;
 /// How many bytes of a tail are copied at once.
 const AT_ONCE: usize = 131_072;
 
+/// Why a volume's file isn't written on.
+#[derive(Drop)]
+enum Unwritable {
+    NoMemory,
+    /// The file at a path couldn't be made, changed or removed.
+    At(String, io::Error),
+}
+
+impl From<AllocError> for Unwritable {
+    fn from(_error: AllocError) -> Unwritable {
+        Unwritable::NoMemory
+    }
+}
+
+/// Why the file at a path couldn't be written.
+fn unwritable(alloc: Global, path: &str, error: io::Error) -> Unwritable {
+    match (error.kind(), String::from_str(alloc, path)) {
+        (ErrorKind::OutOfMemory, _) | (_, Err(_)) => Unwritable::NoMemory,
+        (_, Ok(path)) => Unwritable::At(path, error),
+    }
+}
+
 /// Begins to write a volume's file: bytes that it has after those that may be read are moved away, and its record says which are on the
-/// disk. How many these are. A protected file stays as it is.
+/// disk. A protected file stays as it is. One that can't be written so is protected until the next start, and that is reported.
 pub(crate) fn begin_writing<'a, R: AllocGlobal + Files<File = File>, E: Write>(
     rt: &R,
-    folder: &LibraryFolder,
     store: &mut FileStore<'a, R>,
     trust: Trust,
-    boot: BootId,
+    around: Surroundings<'a>,
     errors: &mut E,
-) -> Result<u64, FolderFault>
-    ensures { store.new ≡ store.old }
+) -> Result<(), AllocError>
+    ensures path { store.new.path ≡ store.old.path }
+    ensures protected { store.old.access ≡ ReadOnly → store.new ≡ store.old }
 {
     match store.access() {
-        FileAccess::ReadOnly => return Ok(trust.synced),
+        FileAccess::ReadOnly => return Ok(()),
         FileAccess::ReadWrite => {}
     }
-    if remove_unfinished(rt, store.path()).is_err() {
-        let path = new_path(rt.alloc(), store.path())?;
-        return Err(FolderFault::CannotWrite(path));
-    }
-    move_tail(rt, folder, store, trust.read, errors)?;
-    let trust = with_tail(rt.alloc(), store.file(), trust);
-    let around = Surroundings {
-        alloc: rt.alloc(),
-        boot,
-        folder: folder.identity(),
-    };
-    if begin_record(rt, store, trust, around).is_err() || folder.sync().is_err() {
-        let path = record_path(rt.alloc(), store.path())?;
-        return Err(FolderFault::CannotWrite(path));
-    }
-    Ok(trust.synced)
-}
-
-/// What may be read after the bytes that are known to be on the disk was written by a program that ended since, in this run of the machine.
-/// A sync that failed there may have made it count as written, so it is written once more where it is, and then the next sync brings it to
-/// the disk. Where that fails the volume's tape is written again from the bytes on that are known to be there.
-fn with_tail(alloc: Global, file: &File, trust: Trust) -> Trust {
-    match write_again(alloc, file, trust.synced, trust.read) {
-        Ok(()) => Trust {
-            synced: trust.synced.max(trust.read),
-            ..trust
-        },
-        Err(_) => trust,
+    match begin(rt, store, trust, around, errors) {
+        Ok(()) => Ok(()),
+        Err(Unwritable::NoMemory) => Err(AllocError),
+        Err(Unwritable::At(file, error)) => {
+            let path = store.paths().given.as_str();
+            let file = file.as_str();
+            tell(errors, &Notice::Unwritable { path, file, error });
+            store.protect();
+            Ok(())
+        }
     }
 }
 
-/// Writes the bytes between two offsets of a file again, each where it is.
-fn write_again(alloc: Global, file: &File, from: u64, to: u64) -> io::Result<()> {
-    let mut file = file;
-    let mut bytes = Vec::new(alloc);
-    let mut at = from;
-    for _piece in 0..u64::MAX {
-        if at >= to {
-            break;
-        }
-        bytes.clear();
-        file.seek(SeekFrom::Start(at))?;
-        let count = file
-            .take((to - at).min(AT_ONCE as u64))
-            .read_to_end(&mut bytes)?;
-        if count == 0 {
-            return Err(io::Error::from(ErrorKind::UnexpectedEof));
-        }
-        file.seek(SeekFrom::Start(at))?;
-        file.write_all(bytes.as_slice())?;
-        at = at.saturating_add(count as u64);
+/// The same of a file that may be written.
+fn begin<'a, R: AllocGlobal + Files<File = File>, E: Write>(
+    rt: &R,
+    store: &mut FileStore<'a, R>,
+    trust: Trust,
+    around: Surroundings<'a>,
+    errors: &mut E,
+) -> Result<(), Unwritable>
+    ensures { store.new ≡ store.old }
+{
+    let alloc = around.alloc;
+    let new = store.new_paths(alloc)?;
+    if let Err(error) = remove_if_there(rt, new.opened.as_str()) {
+        return Err(unwritable(alloc, new.given.as_str(), error));
     }
-    Ok(())
+    move_tail(rt, store, trust.length, around, errors)?;
+    let record = store.record_paths(alloc)?;
+    match begin_record(rt, store, record.opened.as_str(), trust, around) {
+        Ok(()) => Ok(()),
+        Err(error) => Err(unwritable(alloc, record.given.as_str(), error)),
+    }
 }
 
 /// Moves what a file has after so many bytes into a file of its own.
 fn move_tail<'a, R: AllocGlobal + Files<File = File>, E: Write>(
     rt: &R,
-    folder: &LibraryFolder,
     store: &FileStore<'a, R>,
     size: u64,
+    around: Surroundings<'a>,
     errors: &mut E,
-) -> Result<(), FolderFault> {
+) -> Result<(), Unwritable> {
+    let path = store.paths().given.as_str();
     let length = match store.file().metadata() {
         Ok(metadata) => metadata.len(),
-        Err(_) => return Err(FolderFault::CannotRead(String::from_str(rt.alloc(), store.path())?)),
+        Err(error) => return Err(unwritable(around.alloc, path, error)),
     };
     if length <= size {
         return Ok(());
     }
-    let tail = copy_tail(rt, store, size)?;
-    sync_folder(rt.alloc(), folder)?;
-    if cut(store.file(), size).is_err() {
-        return Err(FolderFault::CannotWrite(String::from_str(rt.alloc(), store.path())?));
+    let tail = copy_tail(rt, store, size, around)?;
+    if let Err(error) = cut(store.file(), size) {
+        return Err(unwritable(around.alloc, path, error));
     }
     let notice = Notice::TailMoved {
-        path: store.path(),
+        path,
         count: length - size,
-        tail: tail.as_str(),
+        tail: tail.given.as_str(),
     };
     tell(errors, &notice);
     Ok(())
@@ -127,81 +127,76 @@ fn cut(file: &File, size: u64) -> io::Result<()> {
     file.sync_data()
 }
 
-/// Copies what a file has after so many bytes into the first file of a tail that isn't there yet, and brings it to the disk. Its path.
+/// Copies what a file has after so many bytes into the first file of a tail that isn't there yet, and brings it to the disk. A tail that
+/// wasn't finished is removed.
 fn copy_tail<'a, R: AllocGlobal + Files<File = File>>(
     rt: &R,
     store: &FileStore<'a, R>,
     size: u64,
-) -> Result<String, FolderFault> {
-    let stem = store.path().strip_suffix(".tap").unwrap_or(store.path());
-    for number in 1..MOST_TAILS {
-        let path = format!(in rt.alloc(); "{stem}.tail.{number}")?;
-        match make_tail(rt, path.as_str()) {
-            Ok(file) => {
-                return match copy_from(rt, store.file(), size, file) {
-                    Ok(()) => Ok(path),
-                    Err(_) => Err(FolderFault::CannotWrite(path)),
-                };
-            }
-            Err(error) if error.kind() == ErrorKind::AlreadyExists => {}
-            Err(_) => return Err(FolderFault::CannotWrite(path)),
+    around: Surroundings<'a>,
+) -> Result<FilePaths, Unwritable> {
+    let (file, tail) = make_tail(rt, store, around.alloc)?;
+    let copied = match copy_from(around.alloc, store.file(), size, file) {
+        Ok(()) => around.folder.sync(),
+        Err(error) => Err(error),
+    };
+    match copied {
+        Ok(()) => Ok(tail),
+        Err(error) => {
+            // What is left of it takes room, and says nothing that the image doesn't.
+            let _ = remove_if_there(rt, tail.opened.as_str());
+            Err(unwritable(around.alloc, tail.given.as_str(), error))
         }
     }
-    Err(FolderFault::CannotWrite(String::from_str(rt.alloc(), store.path())?))
 }
 
-fn make_tail<R: Files<File = File>>(rt: &R, path: &str) -> io::Result<File> {
-    OpenOptions::new()
-        .write(true)
-        .create_new(true)
-        .mode(NEW_FILE)
-        .open(rt, path)
+/// Makes the first file of a volume's tail that isn't there yet.
+fn make_tail<'a, R: AllocGlobal + Files<File = File>>(
+    rt: &R,
+    store: &FileStore<'a, R>,
+    alloc: Global,
+) -> Result<(File, FilePaths), Unwritable> {
+    for number in 1..MOST_TAILS {
+        let ending = format!(in alloc; ".tail.{number}")?;
+        let tail = store.paths().with_other_ending(alloc, ending.as_str())?;
+        match make_new(rt, tail.opened.as_str()) {
+            Ok(file) => return Ok((file, tail)),
+            Err(error) if error.kind() == ErrorKind::AlreadyExists => {}
+            Err(error) => return Err(unwritable(alloc, tail.given.as_str(), error)),
+        }
+    }
+    let error = io::Error::new(ErrorKind::AlreadyExists, "it has too many tails");
+    Err(unwritable(alloc, store.paths().given.as_str(), error))
 }
 
 /// Copies a file from an offset on into another one, and brings that to the disk.
-fn copy_from<R: AllocGlobal>(rt: &R, from: &File, offset: u64, mut to: File) -> io::Result<()> {
+fn copy_from(alloc: Global, from: &File, offset: u64, mut to: File) -> io::Result<()> {
     let mut file = from;
     file.seek(SeekFrom::Start(offset))?;
-    let mut reader = BufReader::with_capacity(rt.alloc(), AT_ONCE, from)?;
+    let mut reader = BufReader::with_capacity(alloc, AT_ONCE, from)?;
     io::copy(&mut reader, &mut to)?;
     to.sync_all()
 }
 
-/// Begins a file's record. Unless it says just this already, what the whole file has is brought to the disk, and then another record takes
-/// the place of the one before.
+/// Begins a file's record, at a path. Unless it says just this already, what the whole file has is brought to the disk, and then another
+/// record takes the place of the one before, on the disk too.
 fn begin_record<'a, R: AllocGlobal + Files<File = File>>(
     rt: &R,
     store: &mut FileStore<'a, R>,
+    path: &str,
     trust: Trust,
-    around: Surroundings,
+    around: Surroundings<'a>,
 ) -> io::Result<()>
     ensures { store.new ≡ store.old }
 {
-    let Surroundings { alloc, boot, .. } = around;
-    let inode = store.identity().number();
-    let path = record_path(alloc, store.path())?;
-    let of = RecordOf { alloc, inode, boot };
-    let wanted = SyncedRecord {
-        length: trust.synced,
-        inode,
-        boot,
-    };
-    let record = if trust.record == Some(wanted) {
-        RecordFile::open(rt, path.as_str(), of)?
+    let of = store.record_of(around);
+    let record = if trust.is_recorded {
+        RecordFile::open(rt, path, of)?
     } else {
         store.file().sync_data()?;
-        RecordFile::begin(rt, path.as_str(), of, trust.synced)?
+        RecordFile::begin(rt, path, of, trust.length)?
     };
+    around.folder.sync()?;
     store.begin_record(record, around);
     Ok(())
-}
-
-/// Removes the file that was to take the place of a volume's file, where a program ended before it did.
-fn remove_unfinished<R: AllocGlobal + Files>(rt: &R, path: &str) -> io::Result<()> {
-    let new_path = new_path(rt.alloc(), path)?;
-    match fs::remove_file(rt, new_path.as_str()) {
-        Ok(()) => Ok(()),
-        Err(error) if error.kind() == ErrorKind::NotFound => Ok(()),
-        Err(error) => Err(error),
-    }
 }

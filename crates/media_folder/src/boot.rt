@@ -1,4 +1,4 @@
-//! Which run of the machine it is: what a program wrote is in its memory, if not on the disk, as long as it isn't booted.
+//! Which run of the machine it is. Records name it for older programs, which read more of a file in the same run.
 use std::fmt;
 use std::fs::{self, Files};
 
@@ -9,10 +9,10 @@ const PATH: &str = "/proc/sys/kernel/random/boot_id";
 const SIZE: usize = 36;
 
 /// A run of the machine, from one boot to the next.
-#[derive(Clone, Copy, PartialEq, Eq)]
+#[derive(Clone, Copy)]
 pub(crate) enum BootId {
     Known([u8; SIZE]),
-    /// The system doesn't say. Then it isn't known whether it was booted since.
+    /// The system doesn't say.
     Unknown,
 }
 
@@ -26,7 +26,7 @@ impl BootId {
     }
 
     /// The run with a name.
-    pub fn of(name: &str) -> BootId {
+    fn of(name: &str) -> BootId {
         let mut id = [0; SIZE];
         let bytes = name.as_bytes();
         if bytes.len() != SIZE || bytes.iter().any(|byte| !is_of_name(*byte)) {
@@ -34,14 +34,6 @@ impl BootId {
         }
         id.copy_from_slice(bytes);
         BootId::Known(id)
-    }
-
-    /// Whether it is known that this is the same run.
-    pub fn is_same(&self, other: &BootId) -> bool {
-        match (self, other) {
-            (BootId::Known(one), BootId::Known(two)) => one == two,
-            (BootId::Unknown, _) | (_, BootId::Unknown) => false,
-        }
     }
 }
 

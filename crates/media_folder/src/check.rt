@@ -3,7 +3,7 @@ use crate::check_fault::CheckFault;
 use crate::fault::FolderFault;
 use crate::inventory_file::read_inventory_file;
 use crate::listing::list_volumes;
-use crate::names::volume_path;
+use crate::names::FolderPaths;
 use crate::reading::AT_ONCE;
 use crate::refusal::ImageRefusal;
 use crate::seen::SeenFiles;
@@ -32,7 +32,7 @@ pub fn check_folder<R: AllocGlobal + Files, W: Write, E: Write>(
     out: &mut W,
     errors: &mut E,
 ) -> Result<(), CheckFault> {
-    let folder = path.as_str();
+    let folder = FolderPaths::by_path(path.as_str());
     let Some(kept) = read_inventory_file(rt, folder)? else {
         return Err(CheckFault::Folder(FolderFault::NoLibrary(path)));
     };
@@ -62,7 +62,7 @@ pub fn check_folder<R: AllocGlobal + Files, W: Write, E: Write>(
 /// Writes the lines of the volumes whose files are there.
 fn check_images<R: AllocGlobal + Files, W: Write>(
     rt: &R,
-    folder: &str,
+    folder: FolderPaths<'_>,
     profile: Profile,
     tags: &[VolumeTag],
     out: &mut W,
@@ -73,9 +73,9 @@ fn check_images<R: AllocGlobal + Files, W: Write>(
         unread: 0,
     };
     for tag in tags {
-        let path = volume_path(rt.alloc(), folder, tag)?;
-        let summary = match seen.look(rt, path.as_str()) {
-            Ok(_) => summary_at(rt, path.as_str(), profile),
+        let paths = folder.volume(rt.alloc(), tag)?;
+        let summary = match seen.look(rt, paths.opened.as_str()) {
+            Ok(_) => summary_at(rt, paths.opened.as_str(), profile),
             Err(refusal) => Err(refusal),
         };
         write_summary(tag, &summary, &mut findings, out)?;
@@ -117,8 +117,12 @@ fn write_summary<W: Write>(
 fn count_refusal(refusal: ImageRefusal, findings: &mut Findings) {
     match refusal {
         ImageRefusal::NoMemory => {}
-        ImageRefusal::CannotRead => findings.unread = findings.unread.saturating_add(1),
+        ImageRefusal::CannotRead | ImageRefusal::System(_) | ImageRefusal::Record(_) => {
+            findings.unread = findings.unread.saturating_add(1);
+        }
         ImageRefusal::NotRegular
+        | ImageRefusal::RecordNotRegular
+        | ImageRefusal::RecordVersion(_)
         | ImageRefusal::Doubled
         | ImageRefusal::Faulty { .. }
         | ImageRefusal::TooLarge { .. } => findings.faulty = findings.faulty.saturating_add(1),

@@ -5,20 +5,25 @@ use crate::text_fault::{InventoryKey, ReadFault, VolumeFault, WriteFault};
 use library_inventory::{AddFault, LibrarySize, SizeOption, StartFault};
 use std::alloc::AllocError;
 use std::fmt;
-use std::io::ErrorKind;
+use std::io::{self, ErrorKind};
+use tape_flush::StoreFault;
 use thiserror::Error;
 
 /// Why a folder isn't opened, or its inventory isn't written. Paths are those that were given, and of files in the folder.
 #[derive(Debug, Drop, Error)]
 pub enum FolderFault {
     NoMemory,
-    /// The folder isn't there, and can't be made.
-    CannotMake(String),
-    CannotRead(String),
-    CannotWrite(String),
-    CannotLock(String),
-    /// The path leads to another folder than the one that was opened, or nowhere.
+    /// The folder isn't there, and can't be made. Like those that follow it has the reason that the system gives.
+    CannotMake(String, io::Error),
+    CannotRead(String, io::Error),
+    CannotWrite(String, io::Error),
+    CannotLock(String, io::Error),
+    /// The path leads to another folder than the one that was opened, or nowhere; or that of its lock's file does.
     Moved(String),
+    /// Another program may have the folder.
+    LockLost(String),
+    /// A folder that is open can't be reached by its descriptor.
+    NoProc(String),
     /// Another program has the folder.
     InUse(String),
     /// The folder isn't there, or has no inventory.
@@ -41,18 +46,18 @@ pub enum FolderFault {
 
 impl FolderFault {
     /// Why something at a path wasn't read.
-    pub(crate) fn of_reading(path: String, kind: ErrorKind) -> FolderFault {
-        match kind {
+    pub(crate) fn of_reading(path: String, error: io::Error) -> FolderFault {
+        match error.kind() {
             ErrorKind::OutOfMemory => FolderFault::NoMemory,
-            _ => FolderFault::CannotRead(path),
+            _ => FolderFault::CannotRead(path, error),
         }
     }
 
     /// Why a folder isn't opened.
-    pub(crate) fn of_folder(path: String, kind: ErrorKind) -> FolderFault {
-        match kind {
+    pub(crate) fn of_folder(path: String, error: io::Error) -> FolderFault {
+        match error.kind() {
             ErrorKind::NotFound | ErrorKind::NotADirectory => FolderFault::NoLibrary(path),
-            _ => FolderFault::of_reading(path, kind),
+            _ => FolderFault::of_reading(path, error),
         }
     }
 
@@ -79,11 +84,13 @@ impl FolderFault {
     {
         match self {
             FolderFault::NoMemory => 3,
-            FolderFault::CannotMake(_)
-            | FolderFault::CannotRead(_)
-            | FolderFault::CannotWrite(_)
-            | FolderFault::CannotLock(_)
+            FolderFault::CannotMake(_, _)
+            | FolderFault::CannotRead(_, _)
+            | FolderFault::CannotWrite(_, _)
+            | FolderFault::CannotLock(_, _)
             | FolderFault::Moved(_)
+            | FolderFault::LockLost(_)
+            | FolderFault::NoProc(_)
             | FolderFault::NoNumber => 4,
             FolderFault::InUse(_)
             | FolderFault::NoLibrary(_)
@@ -103,6 +110,31 @@ impl From<AllocError> for FolderFault {
     }
 }
 
+/// Why what is kept of a library isn't written while it is served.
+impl From<FolderFault> for StoreFault {
+    fn from(fault: FolderFault) -> StoreFault {
+        match fault {
+            FolderFault::CannotMake(_, error)
+            | FolderFault::CannotRead(_, error)
+            | FolderFault::CannotWrite(_, error)
+            | FolderFault::CannotLock(_, error) => StoreFault::from(error),
+            FolderFault::Moved(_) => StoreFault::Moved,
+            FolderFault::LockLost(_) => StoreFault::LockLost,
+            FolderFault::NoMemory => StoreFault::from(AllocError),
+            FolderFault::NoProc(_)
+            | FolderFault::InUse(_)
+            | FolderFault::NoLibrary(_)
+            | FolderFault::BadInventory(_, _)
+            | FolderFault::NoSize(_)
+            | FolderFault::Start(_)
+            | FolderFault::NothingServed(_)
+            | FolderFault::NothingToProtect(_)
+            | FolderFault::NoName
+            | FolderFault::NoNumber => StoreFault::Failed,
+        }
+    }
+}
+
 impl From<WriteFault> for FolderFault {
     fn from(fault: WriteFault) -> FolderFault {
         match fault {
@@ -116,17 +148,26 @@ impl fmt::Display for FolderFault {
     fn fmt<W: fmt::Write>(&self, f: &mut fmt::Formatter<W>) -> fmt::Result {
         match self {
             FolderFault::NoMemory => write!(f, "vtl: want of memory"),
-            FolderFault::CannotMake(path) => {
-                write!(f, "vtl: device fault\nvtl: cannot make {path}")
+            FolderFault::CannotMake(path, error) => {
+                write!(f, "vtl: device fault\nvtl: cannot make {path}: {error}")
             }
-            FolderFault::CannotRead(path) => {
-                write!(f, "vtl: device fault\nvtl: cannot read {path}")
+            FolderFault::CannotRead(path, error) => {
+                write!(f, "vtl: device fault\nvtl: cannot read {path}: {error}")
             }
-            FolderFault::CannotWrite(path) => {
-                write!(f, "vtl: device fault\nvtl: cannot write {path}")
+            FolderFault::CannotWrite(path, error) => {
+                write!(f, "vtl: device fault\nvtl: cannot write {path}: {error}")
             }
-            FolderFault::CannotLock(path) => {
-                write!(f, "vtl: device fault\nvtl: cannot lock {path}")
+            FolderFault::CannotLock(path, error) => {
+                write!(f, "vtl: device fault\nvtl: cannot lock {path}: {error}")
+            }
+            FolderFault::LockLost(path) => {
+                write!(f, "vtl: device fault\nvtl: the lock of {path} is lost")
+            }
+            FolderFault::NoProc(path) => {
+                write!(
+                    f,
+                    "vtl: device fault\nvtl: {path}: /proc/self/fd does not lead there: /proc has to be mounted"
+                )
             }
             FolderFault::Moved(path) => {
                 write!(

@@ -1,5 +1,5 @@
 //! The folder, from its lock to its volumes.
-ghost use Rattle.std.specs.Prelude.{◌<◌, ◌≤◌, string_bytes, IfOk};
+ghost use Rattle.std.specs.Prelude.{◌<◌, ◌≤◌, IfOk};
 ghost use Rattle.tape_medium.specs.Limits.{capacity_limit};
 ghost use Rattle.media_folder.specs.Sizes.{IsUsable};
 ghost use Rattle.media_folder.specs.Volumes.{AreRead, AreVolumesOf};
@@ -9,15 +9,17 @@ use crate::images::{
     FoundVolumes, KeptVolume, find_volumes, keep_volumes, make_volumes, protect_volumes,
     read_volumes,
 };
-use crate::inventory_file::{is_inventory_open, kept_inventory};
+use crate::inventory_file::{InventoryWrite, is_inventory_open, kept_inventory};
 use crate::inventory_text::KeptLibrary;
-use crate::library_folder::{LibraryFolder, is_folder_open, lock_folder};
-use crate::names::volume_path;
+use crate::library_folder::{LibraryFolder, is_folder_open};
+use crate::names::{FolderPaths, volume_path};
 use crate::notice::{Notice, tell};
 use crate::profile::{decide_profile, number_profile};
 use crate::size::{decide_size, least_volumes};
 use crate::wanted::WantedLibrary;
-use library_inventory::{LibrarySize, PlacedVolume, Start, StartProfile, place, unused_of};
+use library_inventory::{
+    Inventory, LibrarySize, PlacedVolume, Start, StartProfile, place, unused_of,
+};
 use program_options::LibraryProfile;
 use std::alloc::{AllocError, Global};
 use std::fs::{File, Files};
@@ -25,15 +27,16 @@ use std::io::Write;
 use std::random::RandomSource;
 use tape_medium::{MemoryLimit, VolumeTag};
 
-/// A folder that is opened: the profile of its library and what it is made of, its volumes, and those that are missing, with the elements in which they were. No
-/// other program has it as long as `folder` exists.
+/// A folder that is opened: the profile of its library and what it is made of, its volumes, and those that are missing, with the elements
+/// in which they were.
 #[derive(Drop)]
 pub struct OpenedFolder<'a, R: Files<File = File>> {
-    pub folder: LibraryFolder,
     pub profile: LibraryProfile,
     pub size: LibrarySize,
     pub volumes: Vec<KeptVolume<'a, R>>,
     pub missing: Vec<PlacedVolume>,
+    /// Whether it may be served before its inventory is written.
+    pub inventory: InventoryWrite,
 }
 
 /// What was read of a folder, in which nothing was changed yet.
@@ -47,7 +50,7 @@ pub(crate) struct ReadLibrary<'a, R: Files<File = File>> {
     pub start: Start,
 }
 
-/// Opens the folder of a library. First everything in it is read: a volume whose file can't be served is left out, and one whose file isn't
+/// Opens the volumes of a library in its folder. First everything in it is read: a volume whose file can't be served is left out, and one whose file isn't
 /// there is missing. Then the volumes that the inventory's file wants write-protected are, the blank ones that it wants are made, and
 /// others, until there are as many as were asked for. Each volume takes `volume_size` bytes of
 /// blocks, or as many as it has where these are more, and all take no more memory together than the limit says. What is lost, left or
@@ -55,7 +58,7 @@ pub(crate) struct ReadLibrary<'a, R: Files<File = File>> {
 /// of the hosts' profile that has no number yet gets one before anything is made.
 pub fn open_folder<'a, R: AllocGlobal + Files<File = File> + RandomSource, E: Write>(
     rt: &'a R,
-    path: String,
+    folder: &'a LibraryFolder,
     wanted: WantedLibrary,
     volume_size: u64,
     memory: &MemoryLimit,
@@ -64,12 +67,11 @@ pub fn open_folder<'a, R: AllocGlobal + Files<File = File> + RandomSource, E: Wr
     requires some { 0 < volume_size }
     requires within { volume_size ≤ capacity_limit }
     ensures size { IfOk result (λ opened. IsUsable opened.size) }
-    ensures volumes { IfOk result (λ opened. AreVolumesOf (string_bytes path) opened.volumes.items) }
+    ensures volumes { IfOk result (λ opened. AreVolumesOf folder.entry.now opened.volumes.items) }
 {
-    let folder = lock_folder(rt, path, wanted.without)?;
-    let kept = kept_inventory(rt, folder.path(), wanted.without)?;
-    let path = folder.path();
-    let read = read_library(rt, path, &kept, &wanted, volume_size, memory, errors)?;
+    let paths = folder.paths();
+    let kept = kept_inventory(rt, paths, wanted.without)?;
+    let read = read_library(rt, paths, &kept, &wanted, volume_size, memory, errors)?;
     let ReadLibrary {
         profile,
         size,
@@ -82,33 +84,26 @@ pub fn open_folder<'a, R: AllocGlobal + Files<File = File> + RandomSource, E: Wr
         },
     } = read;
     let profile = number_profile(rt, profile)?;
-    tell_profile(path, &kept, profile, errors);
-    protect_volumes(rt, &folder, wanted_protected(&kept))?;
+    let inventory = InventoryWrite::of_start(&kept, profile);
+    tell_profile(folder.path(), &kept, profile, errors);
+    protect_volumes(rt, folder, wanted_protected(&kept))?;
     made.extend_from_slice(&more)?;
-    make_volumes(rt, &folder, &made)?;
-    find_volumes(
-        rt,
-        folder.path(),
-        &made,
-        volume_size,
-        memory,
-        &mut found,
-        errors,
-    )?;
-    let volumes = keep_volumes(rt, &folder, found, &placed, errors)?;
+    make_volumes(rt, folder, &made)?;
+    find_volumes(rt, paths, &made, volume_size, memory, &mut found, errors)?;
+    let volumes = keep_volumes(rt, folder, found, &placed, errors)?;
     Ok(OpenedFolder {
-        folder,
         profile,
         size,
         volumes,
         missing,
+        inventory,
     })
 }
 
 /// Reads what is in a folder next to its inventory, and decides what its library is made of, which profile it has and where its volumes are.
 pub(crate) fn read_library<'a, R: AllocGlobal + Files<File = File>, E: Write>(
     rt: &'a R,
-    folder: &str,
+    folder: FolderPaths<'_>,
     kept: &Option<KeptLibrary>,
     wanted: &WantedLibrary,
     volume_size: u64,
@@ -118,7 +113,7 @@ pub(crate) fn read_library<'a, R: AllocGlobal + Files<File = File>, E: Write>(
     requires some { 0 < volume_size }
     requires within { volume_size ≤ capacity_limit }
     ensures size { IfOk result (λ read. IsUsable read.size) }
-    ensures volumes { IfOk result (λ read. AreRead folder.now read.found.volumes.items) }
+    ensures volumes { IfOk result (λ read. AreRead folder.entry.given.now read.found.volumes.items) }
 {
     let (size_before, profile_before) = match kept {
         Some(kept) => (Some(kept.inventory.size()), Some(kept.inventory.profile())),
@@ -138,17 +133,17 @@ pub(crate) fn read_library<'a, R: AllocGlobal + Files<File = File>, E: Write>(
         errors,
     )?;
     if found.is_nothing_served() {
-        return Err(FolderFault::NothingServed(String::from_str(rt.alloc(), folder)?));
+        let path = String::from_str(rt.alloc(), folder.given)?;
+        return Err(FolderFault::NothingServed(path));
     }
-    look_for_protected(rt, folder, wanted_protected(kept), &found)?;
+    look_for_protected(rt, folder.given, wanted_protected(kept), &found)?;
     let blank = blank_tags(rt.alloc(), kept, &found)?;
     let least = least_volumes(&wanted.given, size_before);
     let start = start_of(rt.alloc(), size, least, kept, &found, &blank)?;
-    tell_blank(rt, folder, kept, &blank, errors)?;
-    tell_missing(rt, folder, &start.missing, &found.left_out, errors)?;
-    if found.is_open || is_folder_open(rt, folder) || is_inventory_open(rt, folder)? {
-        tell(errors, &Notice::OpenToOthers { folder });
-    }
+    tell_blank(rt, folder.given, kept, &blank, errors)?;
+    tell_new(rt, folder.given, kept, &found, &start.volumes, errors)?;
+    tell_missing(rt, folder.given, &start.missing, &found.left_out, errors)?;
+    tell_open(rt, folder, found.is_open, errors)?;
     Ok(ReadLibrary {
         profile,
         size,
@@ -248,6 +243,52 @@ fn tell_blank<R: AllocGlobal, E: Write>(
         let path = volume_path(rt.alloc(), folder, tag)?;
         let path = path.as_str();
         tell(errors, &Notice::NotBlank { path });
+    }
+    Ok(())
+}
+
+/// Whether an inventory names a volume, also as one that was missing.
+fn is_named(inventory: &Inventory, tag: VolumeTag) -> bool {
+    inventory.volumes().iter().any(|volume| volume.tag == tag)
+        || inventory.missing().iter().any(|volume| volume.tag == tag)
+}
+
+/// Reports volumes whose files are there and that an inventory doesn't name.
+fn tell_new<'a, R: AllocGlobal + Files<File = File>, E: Write>(
+    rt: &R,
+    folder: &str,
+    kept: &Option<KeptLibrary>,
+    found: &FoundVolumes<'a, R>,
+    placed: &[PlacedVolume],
+    errors: &mut E,
+) -> Result<(), FolderFault> {
+    let Some(kept) = kept else {
+        return Ok(());
+    };
+    for volume in placed {
+        if is_named(&kept.inventory, volume.tag) || !found.has(volume.tag) {
+            continue;
+        }
+        let path = volume_path(rt.alloc(), folder, &volume.tag)?;
+        let notice = Notice::New {
+            path: path.as_str(),
+            element: volume.element,
+        };
+        tell(errors, &notice);
+    }
+    Ok(())
+}
+
+/// Reports that users other than the owner of a folder, or of a file in it, may read or write that.
+fn tell_open<R: AllocGlobal + Files, E: Write>(
+    rt: &R,
+    folder: FolderPaths<'_>,
+    is_image_open: bool,
+    errors: &mut E,
+) -> Result<(), FolderFault> {
+    if is_image_open || is_folder_open(rt, folder.opened) || is_inventory_open(rt, folder)? {
+        let folder = folder.given;
+        tell(errors, &Notice::OpenToOthers { folder });
     }
     Ok(())
 }

@@ -1,5 +1,6 @@
 //! The files of a folder's volumes: all of them are read first, and only then files are made and written.
-ghost use Rattle.std.specs.Prelude.{◌≡◌, ◌<◌, ◌≤◌, [], IfOk, OnOk};
+ghost use Rattle.std.specs.Prelude.{◌≡◌, ◌<◌, ◌≤◌, [], string_bytes, IfOk, OnOk};
+ghost use Rattle.media_folder.specs.declared.store.FileAccess.TheVariants.{ReadOnly};
 ghost use Rattle.tape_medium.specs.Limits.{capacity_limit};
 ghost use Rattle.media_folder.specs.Stores.{is_read_only};
 ghost use Rattle.media_folder.specs.Volumes.{AreRead, AreVolumesOf};
@@ -10,19 +11,20 @@ use crate::fault::FolderFault;
 use crate::inventory_file::sync_folder;
 use crate::library_folder::LibraryFolder;
 use crate::listing::list_volumes;
-use crate::names::volume_path;
+use crate::names::{FilePaths, FolderPaths};
 use crate::notice::{Notice, tell};
 use crate::reading::{ReadVolume, VolumeFile, read_volume};
 use crate::refusal::ImageRefusal;
-use crate::rights::{NEW_FILE, is_open_to_others, is_write_protected};
+use crate::rights::{is_open_to_others, is_write_protected};
 use crate::seen::SeenFiles;
-use crate::store::FileStore;
+use crate::small_file::make_new;
+use crate::store::{FileAccess, FileStore, Surroundings};
 use library_inventory::{Element, PlacedVolume};
 use scsi_cdb::Profile;
 use std::alloc::{AllocError, Global};
-use std::fs::{self, File, Files, OpenOptions};
+use std::fs::{self, File, Files};
 use std::io::{self, Write};
-use std::os::unix::fs::{OpenOptionsExt, PermissionsExt};
+use std::os::unix::fs::PermissionsExt;
 use tape_flush::{SavedImage, open_image};
 use tape_medium::{MemoryLimit, Volume, VolumeTag};
 
@@ -98,7 +100,7 @@ impl<'a, R: Files<File = File>> FoundVolumes<'a, R> {
 /// whose file can't be served is reported and left out.
 pub(crate) fn read_volumes<'a, R: AllocGlobal + Files<File = File>, E: Write>(
     rt: &'a R,
-    folder: &str,
+    folder: FolderPaths<'_>,
     profile: Profile,
     protect: Vec<VolumeTag>,
     volume_size: u64,
@@ -107,7 +109,7 @@ pub(crate) fn read_volumes<'a, R: AllocGlobal + Files<File = File>, E: Write>(
 ) -> Result<FoundVolumes<'a, R>, FolderFault>
     requires some { 0 < volume_size }
     requires within { volume_size ≤ capacity_limit }
-    ensures { IfOk result (λ found. AreRead folder.now found.volumes.items) }
+    ensures { IfOk result (λ found. AreRead folder.entry.given.now found.volumes.items) }
 {
     let tags = list_volumes(rt, folder, errors)?;
     let mut found = FoundVolumes::new(rt.alloc(), BootId::now(rt), profile, protect);
@@ -118,7 +120,7 @@ pub(crate) fn read_volumes<'a, R: AllocGlobal + Files<File = File>, E: Write>(
 /// Reads the files of volumes, after others that were found.
 pub(crate) fn find_volumes<'a, R: AllocGlobal + Files<File = File>, E: Write>(
     rt: &'a R,
-    folder: &str,
+    folder: FolderPaths<'_>,
     tags: &[VolumeTag],
     volume_size: u64,
     memory: &MemoryLimit,
@@ -127,7 +129,7 @@ pub(crate) fn find_volumes<'a, R: AllocGlobal + Files<File = File>, E: Write>(
 ) -> Result<(), FolderFault>
     requires some { 0 < volume_size }
     requires within { volume_size ≤ capacity_limit }
-    ensures { AreRead folder.now found.old.volumes.items → OnOk result (AreRead folder.now found.new.volumes.items) }
+    ensures { AreRead folder.entry.given.now found.old.volumes.items → OnOk result (AreRead folder.entry.given.now found.new.volumes.items) }
 {
     'tags: for tag in tags {
         find_volume(rt, folder, *tag, volume_size, memory, found, errors)?;
@@ -138,7 +140,7 @@ pub(crate) fn find_volumes<'a, R: AllocGlobal + Files<File = File>, E: Write>(
 /// Reads the file of one volume, after others that were found.
 fn find_volume<'a, R: AllocGlobal + Files<File = File>, E: Write>(
     rt: &'a R,
-    folder: &str,
+    folder: FolderPaths<'_>,
     tag: VolumeTag,
     volume_size: u64,
     memory: &MemoryLimit,
@@ -147,14 +149,14 @@ fn find_volume<'a, R: AllocGlobal + Files<File = File>, E: Write>(
 ) -> Result<(), FolderFault>
     requires some { 0 < volume_size }
     requires within { volume_size ≤ capacity_limit }
-    ensures { AreRead folder.now found.old.volumes.items → OnOk result (AreRead folder.now found.new.volumes.items) }
+    ensures { AreRead folder.entry.given.now found.old.volumes.items → OnOk result (AreRead folder.entry.given.now found.new.volumes.items) }
 {
-    let path = volume_path(rt.alloc(), folder, &tag)?;
-    let path = path.as_str();
-    match read_unseen(rt, path, tag, volume_size, memory, found, errors) {
+    let paths = folder.volume(rt.alloc(), &tag)?;
+    match read_unseen(rt, &paths, tag, volume_size, memory, found, errors) {
         Ok(read) => found.volumes.push(read).map_err(AllocError::from)?,
         Err(ImageRefusal::NoMemory) => return Err(FolderFault::NoMemory),
         Err(refusal) => {
+            let path = paths.given.as_str();
             tell(errors, &Notice::LeftOut { path, refusal });
             found.left_out.push(tag).map_err(AllocError::from)?;
         }
@@ -165,7 +167,7 @@ fn find_volume<'a, R: AllocGlobal + Files<File = File>, E: Write>(
 /// Reads the file at a path as the volume with a tag, if it wasn't seen under another name.
 fn read_unseen<'a, R: AllocGlobal + Files<File = File>, E: Write>(
     rt: &'a R,
-    path: &str,
+    paths: &FilePaths,
     tag: VolumeTag,
     volume_size: u64,
     memory: &MemoryLimit,
@@ -176,14 +178,14 @@ fn read_unseen<'a, R: AllocGlobal + Files<File = File>, E: Write>(
     requires within { volume_size ≤ capacity_limit }
     ensures found { found.new.volumes ≡ found.old.volumes }
     ensures tag { IfOk result (λ read. read.volume.tag ≡ tag) }
-    ensures path { IfOk result (λ read. read.store.path ≡ path.now) }
+    ensures path { IfOk result (λ read. read.store.path ≡ string_bytes paths.now.given) }
     ensures protected { IfOk result (λ read. read.volume.protected ≡ is_read_only read.store.access) }
 {
-    let mode = found.seen.look(rt, path)?;
+    let mode = found.seen.look(rt, paths.opened.as_str())?;
     found.is_open = found.is_open || is_open_to_others(mode);
     let is_wanted = found.protect.iter().any(|other| *other == tag);
     let file = VolumeFile {
-        path,
+        paths,
         tag,
         is_protected: is_wanted || is_write_protected(mode),
     };
@@ -205,25 +207,15 @@ pub(crate) fn make_volumes<R: AllocGlobal + Files<File = File>>(
     tags: &[VolumeTag],
 ) -> Result<(), FolderFault> {
     for tag in tags {
-        let path = volume_path(rt.alloc(), folder.path(), tag)?;
-        if make_file(rt, path.as_str()).is_err() {
-            return Err(FolderFault::CannotWrite(path));
+        let FilePaths { given, opened } = folder.paths().volume(rt.alloc(), tag)?;
+        if let Err(error) = make_new(rt, opened.as_str()) {
+            return Err(FolderFault::CannotWrite(given, error));
         }
     }
     if tags.is_empty() {
         return Ok(());
     }
     sync_folder(rt.alloc(), folder)
-}
-
-/// Makes an empty file, where there is none.
-fn make_file<R: Files<File = File>>(rt: &R, path: &str) -> io::Result<()> {
-    OpenOptions::new()
-        .write(true)
-        .create_new(true)
-        .mode(NEW_FILE)
-        .open(rt, path)?;
-    Ok(())
 }
 
 /// Takes from the files of volumes what lets users write them.
@@ -233,9 +225,9 @@ pub(crate) fn protect_volumes<R: AllocGlobal + Files>(
     tags: &[VolumeTag],
 ) -> Result<(), FolderFault> {
     for tag in tags {
-        let path = volume_path(rt.alloc(), folder.path(), tag)?;
-        if protect_file(rt, path.as_str()).is_err() {
-            return Err(FolderFault::CannotWrite(path));
+        let FilePaths { given, opened } = folder.paths().volume(rt.alloc(), tag)?;
+        if let Err(error) = protect_file(rt, opened.as_str()) {
+            return Err(FolderFault::CannotWrite(given, error));
         }
     }
     Ok(())
@@ -255,38 +247,45 @@ fn protect_file<R: Files>(rt: &R, path: &str) -> io::Result<()> {
 /// is moved away.
 pub(crate) fn keep_volumes<'a, R: AllocGlobal + Files<File = File>, E: Write>(
     rt: &R,
-    folder: &LibraryFolder,
+    folder: &'a LibraryFolder,
     found: FoundVolumes<'a, R>,
     placed: &[PlacedVolume],
     errors: &mut E,
 ) -> Result<Vec<KeptVolume<'a, R>>, FolderFault>
-    ensures { AreRead folder.now found.entry.volumes.items → IfOk result (λ kept. AreVolumesOf folder.now kept.items) }
+    ensures { AreRead folder.entry.given.now found.entry.volumes.items → IfOk result (λ kept. AreVolumesOf folder.now kept.items) }
 {
     let FoundVolumes { volumes, boot, .. } = found;
+    let around = Surroundings {
+        alloc: rt.alloc(),
+        boot,
+        folder,
+    };
     let mut kept = Vec::with_capacity(rt.alloc(), volumes.len())?;
     'volumes: for read in volumes {
         // Each volume that was read has an element.
         if let Some(place) = place_of(placed, read.volume.tag) {
-            let volume = keep_volume(rt, folder, read, place, boot, errors)?;
+            let volume = keep_volume(rt, read, place, around, errors)?;
             kept.push(volume).map_err(AllocError::from)?;
         }
     }
     Ok(kept)
 }
 
-/// A volume that was read, and is kept in its file from now on.
+/// A volume that was read, and is kept in its file from now on. It is protected where that can't be written.
 fn keep_volume<'a, R: AllocGlobal + Files<File = File>, E: Write>(
     rt: &R,
-    folder: &LibraryFolder,
     read: ReadVolume<'a, R>,
     place: PlacedVolume,
-    boot: BootId,
+    around: Surroundings<'a>,
     errors: &mut E,
-) -> Result<KeptVolume<'a, R>, FolderFault>
+) -> Result<KeptVolume<'a, R>, AllocError>
     ensures element { IfOk result (λ kept. kept.element ≡ place.element) }
     ensures source { IfOk result (λ kept. kept.source ≡ place.source) }
-    ensures volume { IfOk result (λ kept. kept.volume ≡ read.entry.volume) }
-    ensures store { IfOk result (λ kept. kept.image.store ≡ read.entry.store) }
+    ensures tag { IfOk result (λ kept. kept.volume.tag ≡ read.entry.volume.tag) }
+    ensures tape { IfOk result (λ kept. kept.volume.tape ≡ read.entry.volume.tape) }
+    ensures path { IfOk result (λ kept. kept.image.store.path ≡ read.entry.store.path) }
+    ensures protected { IfOk result (λ kept. kept.volume.protected ≡ is_read_only kept.image.store.access) }
+    ensures stays { IfOk result (λ kept. read.entry.store.access ≡ ReadOnly → kept.image.store ≡ read.entry.store) }
 {
     let ReadVolume {
         volume,
@@ -294,12 +293,16 @@ fn keep_volume<'a, R: AllocGlobal + Files<File = File>, E: Write>(
         ends,
         trust,
     } = read;
-    let synced = begin_writing(rt, folder, &mut store, trust, boot, errors)?;
+    begin_writing(rt, &mut store, trust, around, errors)?;
+    let protected = store.access() == FileAccess::ReadOnly;
     Ok(KeptVolume {
         element: place.element,
         source: place.source,
-        volume,
-        image: open_image(store, ends, synced),
+        volume: Volume {
+            protected,
+            ..volume
+        },
+        image: open_image(store, ends, trust.length),
     })
 }
 

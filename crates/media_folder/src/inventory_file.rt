@@ -1,56 +1,63 @@
 //! The file of a library's inventory.
 use crate::fault::FolderFault;
 use crate::inventory_text::{KeptLibrary, read_inventory, write_inventory};
-use crate::library_folder::LibraryFolder;
-use crate::names::path_in;
-use crate::rights::{NEW_FILE, is_open_to_others};
+use crate::library_folder::{FolderLoss, LibraryFolder};
+use crate::names::{FilePaths, FolderPaths};
+use crate::notice::{Notice, tell};
+use crate::rights::is_open_to_others;
+use crate::small_file::{SmallFileFault, make_anew, read_small_file};
 use crate::text_fault::ReadFault;
 use library_inventory::{Inventory, PlacedVolume};
-use program_options::WithoutLibrary;
+use program_options::{LibraryProfile, WithoutLibrary};
 use std::alloc::{AllocError, Global};
-use std::fs::{self, File, Files, OpenOptions};
+use std::fs::{self, File, Files};
 use std::io::{self, ErrorKind, Write};
-use std::os::unix::fs::{MetadataExt, OpenOptionsExt};
+use std::os::unix::fs::MetadataExt;
 
 const NAME: &str = "library.toml";
 
 /// What is written before it takes the place of the other.
 const NEW_NAME: &str = "library.toml.new";
 
+/// How many bytes an inventory has at most. One of 1,040 volumes has less than a tenth of that.
+const MOST_BYTES: u64 = 1_048_576;
+
 /// What the inventory's file of a folder says, if it has one.
 pub(crate) fn read_inventory_file<R: AllocGlobal + Files>(
     rt: &R,
-    folder: &str,
+    folder: FolderPaths<'_>,
 ) -> Result<Option<KeptLibrary>, FolderFault> {
-    let path = path_in(rt.alloc(), folder, NAME)?;
-    let text = match fs::read_to_string(rt, path.as_str()) {
-        Ok(text) => text,
-        Err(error) => return no_text(path, error.kind()),
+    let FilePaths { given, opened } = folder.file(rt.alloc(), NAME)?;
+    let bytes = match read_small_file(rt, opened.as_str(), MOST_BYTES) {
+        Ok(Some(bytes)) => bytes,
+        Ok(None) => return Ok(None),
+        Err(fault) => return no_text(given, fault),
     };
-    match read_inventory(rt.alloc(), text.as_str()) {
+    match read_inventory(rt.alloc(), &bytes) {
         Ok(kept) => Ok(Some(kept)),
-        Err(fault) => Err(FolderFault::of_inventory(path, fault)),
+        Err(fault) => Err(FolderFault::of_inventory(given, fault)),
     }
 }
 
 /// What it means that the file of an inventory gives no text.
-fn no_text(path: String, kind: ErrorKind) -> Result<Option<KeptLibrary>, FolderFault> {
-    match kind {
-        ErrorKind::NotFound | ErrorKind::NotADirectory => Ok(None),
-        ErrorKind::InvalidData => Err(FolderFault::BadInventory(path, ReadFault::NoToml)),
-        _ => Err(FolderFault::of_reading(path, kind)),
+fn no_text(path: String, fault: SmallFileFault) -> Result<Option<KeptLibrary>, FolderFault> {
+    match fault {
+        SmallFileFault::NotRegular => Err(FolderFault::BadInventory(path, ReadFault::NotRegular)),
+        SmallFileFault::TooLong => Err(FolderFault::BadInventory(path, ReadFault::TooLong)),
+        SmallFileFault::System(error) if error.kind() == ErrorKind::NotADirectory => Ok(None),
+        SmallFileFault::System(error) => Err(FolderFault::of_reading(path, error)),
     }
 }
 
 /// What the inventory's file says of a folder that has one, or in which a library is made.
 pub(crate) fn kept_inventory<R: AllocGlobal + Files>(
     rt: &R,
-    folder: &str,
+    folder: FolderPaths<'_>,
     without: WithoutLibrary,
 ) -> Result<Option<KeptLibrary>, FolderFault> {
     match (read_inventory_file(rt, folder)?, without) {
         (None, WithoutLibrary::Refuse) => {
-            Err(FolderFault::NoLibrary(String::from_str(rt.alloc(), folder)?))
+            Err(FolderFault::NoLibrary(String::from_str(rt.alloc(), folder.given)?))
         }
         (kept, _) => Ok(kept),
     }
@@ -59,17 +66,59 @@ pub(crate) fn kept_inventory<R: AllocGlobal + Files>(
 /// Whether a folder has an inventory that users other than its owner may read or write.
 pub(crate) fn is_inventory_open<R: AllocGlobal + Files>(
     rt: &R,
-    folder: &str,
+    folder: FolderPaths<'_>,
 ) -> Result<bool, AllocError> {
-    let path = path_in(rt.alloc(), folder, NAME)?;
-    match fs::metadata(rt, path.as_str()) {
+    let path = folder.file(rt.alloc(), NAME)?;
+    match fs::metadata(rt, path.opened.as_str()) {
         Ok(metadata) => Ok(is_open_to_others(metadata.mode())),
         Err(_) => Ok(false),
     }
 }
 
+/// Whether a library may be served before its inventory is written.
+#[derive(Clone, Copy, PartialEq, Eq)]
+pub enum InventoryWrite {
+    /// It may not: the folder has no inventory of this library yet, or what its file orders was carried out, which would be done again.
+    Required,
+    /// It may: the file says where the volumes were, and is written as soon as it can be.
+    MayFail,
+}
+
+impl InventoryWrite {
+    /// Of a library that is started with a profile.
+    pub(crate) fn of_start(kept: &Option<KeptLibrary>, profile: LibraryProfile) -> InventoryWrite {
+        match kept {
+            Some(kept) if kept.inventory.profile() == profile && !kept.has_orders() => {
+                InventoryWrite::MayFail
+            }
+            Some(_) | None => InventoryWrite::Required,
+        }
+    }
+}
+
+/// Writes the inventory of a library that is opened, as `write_inventory_file` does. Whether it is written: where it may wait, that it isn't is
+/// reported.
+pub fn begin_inventory<R: AllocGlobal + Files<File = File>, E: Write>(
+    rt: &R,
+    folder: &LibraryFolder,
+    inventory: &Inventory,
+    missing: &[PlacedVolume],
+    write: InventoryWrite,
+    errors: &mut E,
+) -> Result<bool, FolderFault> {
+    match (write_inventory_file(rt, folder, inventory, missing), write) {
+        (Ok(()), _) => Ok(true),
+        (Err(FolderFault::CannotWrite(path, error)), InventoryWrite::MayFail) => {
+            let path = path.as_str();
+            tell(errors, &Notice::InventoryUnwritten { path, error });
+            Ok(false)
+        }
+        (Err(fault), _) => Err(fault),
+    }
+}
+
 /// Writes an inventory, with volumes that are missing, into a folder, in place of the one that is there: whatever fails, the file is the
-/// whole old one or the whole new one. It fails where the folder's path leads to another one meanwhile.
+/// whole old one or the whole new one. It fails where the folder's path leads to another one meanwhile, or its lock is lost.
 pub fn write_inventory_file<R: AllocGlobal + Files<File = File>>(
     rt: &R,
     folder: &LibraryFolder,
@@ -77,28 +126,32 @@ pub fn write_inventory_file<R: AllocGlobal + Files<File = File>>(
     missing: &[PlacedVolume],
 ) -> Result<(), FolderFault> {
     let text = write_inventory(rt.alloc(), inventory, missing)?;
-    let path = path_in(rt.alloc(), folder.path(), NAME)?;
-    let new_path = path_in(rt.alloc(), folder.path(), NEW_NAME)?;
-    if !folder.is_at_its_path(rt) {
-        return Err(FolderFault::Moved(String::from_str(rt.alloc(), folder.path())?));
+    let own = folder.paths().file(rt.alloc(), NAME)?;
+    let new = folder.paths().file(rt.alloc(), NEW_NAME)?;
+    look(rt, folder)?;
+    if let Err(error) = write_synced(rt, new.opened.as_str(), text.as_bytes()) {
+        return Err(FolderFault::CannotWrite(new.given, error));
     }
-    if write_synced(rt, new_path.as_str(), text.as_bytes()).is_err() {
-        return Err(FolderFault::CannotWrite(new_path));
+    if let Err(error) = fs::rename(rt, new.opened.as_str(), own.opened.as_str()) {
+        return Err(FolderFault::CannotWrite(own.given, error));
     }
-    if fs::rename(rt, new_path.as_str(), path.as_str()).is_err() {
-        return Err(FolderFault::CannotWrite(path));
-    }
-    sync_folder(rt.alloc(), folder)
+    sync_folder(rt.alloc(), folder)?;
+    look(rt, folder)
 }
 
-/// Writes a file, and brings it to the disk.
+/// Looks whether names in a folder may be changed, and are then found by its path.
+fn look<R: AllocGlobal + Files>(rt: &R, folder: &LibraryFolder) -> Result<(), FolderFault> {
+    let path = String::from_str(rt.alloc(), folder.path())?;
+    match folder.look(rt) {
+        Ok(()) => Ok(()),
+        Err(FolderLoss::Moved) => Err(FolderFault::Moved(path)),
+        Err(FolderLoss::LockLost) => Err(FolderFault::LockLost(path)),
+    }
+}
+
+/// Writes a new file, and brings it to the disk.
 fn write_synced<R: Files<File = File>>(rt: &R, path: &str, bytes: &[u8]) -> io::Result<()> {
-    let mut file = OpenOptions::new()
-        .write(true)
-        .create(true)
-        .truncate(true)
-        .mode(NEW_FILE)
-        .open(rt, path)?;
+    let mut file = make_anew(rt, path)?;
     file.write_all(bytes)?;
     file.sync_all()
 }
@@ -107,6 +160,9 @@ fn write_synced<R: Files<File = File>>(rt: &R, path: &str, bytes: &[u8]) -> io::
 pub(crate) fn sync_folder(alloc: Global, folder: &LibraryFolder) -> Result<(), FolderFault> {
     match folder.sync() {
         Ok(()) => Ok(()),
-        Err(_) => Err(FolderFault::CannotWrite(String::from_str(alloc, folder.path())?)),
+        Err(error) => {
+            let path = String::from_str(alloc, folder.path())?;
+            Err(FolderFault::CannotWrite(path, error))
+        }
     }
 }

@@ -1,5 +1,6 @@
 //! The text of an inventory, `library.toml`, in TOML 1.0.
 
+use crate::known_keys::look_at_keys;
 use crate::text_fault::{InventoryKey, ReadFault, VolumeFault, WriteFault};
 use inquiry_data::LibraryNumber;
 use library_inventory::{
@@ -11,6 +12,7 @@ use std::alloc::{AllocError, Global};
 use std::fmt::Write;
 use tape_medium::VolumeTag;
 use toml::{Table, Value};
+use toml_lines::line_of;
 
 /// What the file of an inventory says: the inventory, and what its next start is to do, which is never written by the program.
 #[derive(Drop)]
@@ -20,6 +22,13 @@ pub struct KeptLibrary {
     pub blank: Vec<VolumeTag>,
     /// The tags of volumes that are to be write-protected. No two are one.
     pub protect: Vec<VolumeTag>,
+}
+
+impl KeptLibrary {
+    /// Whether the next start is to do something that is to be taken out of the file then.
+    pub(crate) fn has_orders(&self) -> bool {
+        !self.blank.is_empty() || !self.protect.is_empty()
+    }
 }
 
 /// The version of the text of a library of the default profile.
@@ -32,9 +41,9 @@ const HOSTS_VERSION: i64 = 2;
 const HOSTS: &str = "hosts";
 
 /// The key of a volume's source.
-const SOURCE: &str = "source";
+pub(crate) const SOURCE: &str = "source";
 
-fn key_text(key: InventoryKey) -> &'static str {
+pub(crate) fn key_text(key: InventoryKey) -> &'static str {
     match key {
         InventoryKey::Version => "version",
         InventoryKey::Drives => "drives",
@@ -234,19 +243,20 @@ fn named_tag(name: &Value) -> Option<VolumeTag> {
 }
 
 /// What a text in TOML 1.0 holds: an inventory, as `write_inventory` writes it, and under `blank` and `protect` what the next start is to do.
-/// Keys that it doesn't know are passed over. What is read is an inventory; that it is the one that was written is tested, and not proved.
-pub fn read_inventory(alloc: Global, text: &str) -> Result<KeptLibrary, ReadFault> {
-    let table = match toml::table_from_str(alloc, text) {
+/// A key that it doesn't know is refused, since its writer meant something by it. What is read is an inventory; that it is the one that was
+/// written is tested, and not proved.
+pub fn read_inventory(alloc: Global, text: &[u8]) -> Result<KeptLibrary, ReadFault> {
+    let table = match toml::table_from_slice(alloc, text) {
         Ok(table) => table,
-        Err(fault) if fault.is_memory() => return Err(ReadFault::NoMemory),
-        Err(_) => return Err(ReadFault::NoToml),
+        Err(fault) => return Err(no_toml(text, &fault)),
     };
     let version = integer_at(&table, InventoryKey::Version)?;
     if !(VERSION..=HOSTS_VERSION).contains(&version) {
         return Err(ReadFault::UnknownVersion(version));
     }
-    let size = size_of(&table)?;
-    let mut inventory = Inventory::new(alloc, library_profile_of(&table)?, size);
+    let profile = library_profile_of(&table)?;
+    look_at_keys(alloc, text, &table, profile.profile())?;
+    let mut inventory = Inventory::new(alloc, profile, size_of(&table)?);
     add_volumes(&mut inventory, volumes_at(&table, InventoryKey::Volume)?)?;
     add_missing(&mut inventory, volumes_at(&table, InventoryKey::Missing)?)?;
     Ok(KeptLibrary {
@@ -254,6 +264,16 @@ pub fn read_inventory(alloc: Global, text: &str) -> Result<KeptLibrary, ReadFaul
         blank: tags_at(alloc, &table, InventoryKey::Blank)?,
         protect: tags_at(alloc, &table, InventoryKey::Protect)?,
     })
+}
+
+/// Why a text isn't TOML.
+fn no_toml(text: &[u8], fault: &toml::de::Error) -> ReadFault {
+    match fault.span() {
+        Some(span) => ReadFault::NoToml {
+            line: line_of(text, span.start),
+        },
+        None => ReadFault::NoMemory,
+    }
 }
 
 /// Adds one volume to a text, under a key.

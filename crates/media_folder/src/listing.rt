@@ -1,6 +1,6 @@
 //! Which volumes have files in a folder.
 use crate::fault::FolderFault;
-use crate::names::{FileKind, kind_of};
+use crate::names::{FileKind, FolderPaths, kind_of};
 use crate::notice::{Notice, tell};
 use std::alloc::AllocError;
 use std::fs::{self, Files};
@@ -11,15 +11,15 @@ use tape_medium::VolumeTag;
 /// and left alone.
 pub(crate) fn list_volumes<R: AllocGlobal + Files, E: Write>(
     rt: &R,
-    folder: &str,
+    folder: FolderPaths<'_>,
     errors: &mut E,
 ) -> Result<Vec<VolumeTag>, FolderFault> {
     let mut tags = Vec::new(rt.alloc());
     match note_volumes(rt, folder, &mut tags, errors) {
         Ok(()) => {}
         Err(error) => {
-            let path = String::from_str(rt.alloc(), folder)?;
-            return Err(FolderFault::of_reading(path, error.kind()));
+            let path = String::from_str(rt.alloc(), folder.given)?;
+            return Err(FolderFault::of_reading(path, error));
         }
     }
     tags.sort_unstable();
@@ -28,14 +28,15 @@ pub(crate) fn list_volumes<R: AllocGlobal + Files, E: Write>(
 
 fn note_volumes<R: AllocGlobal + Files, E: Write>(
     rt: &R,
-    folder: &str,
+    folder: FolderPaths<'_>,
     tags: &mut Vec<VolumeTag>,
     errors: &mut E,
 ) -> io::Result<()> {
-    for entry in fs::read_dir(&rt, folder)? {
+    for entry in fs::read_dir(&rt, folder.opened)? {
         match entry {
-            Ok(entry) => note_volume(entry.file_name(), folder, tags, errors)?,
+            Ok(entry) => note_volume(entry.file_name(), folder.given, tags, errors)?,
             Err(error) if error.kind() == ErrorKind::InvalidFilename => {
+                let folder = folder.given;
                 tell(errors, &Notice::NoText { folder });
             }
             Err(error) => return Err(error),

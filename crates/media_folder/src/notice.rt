@@ -2,12 +2,12 @@ use crate::refusal::ImageRefusal;
 use inquiry_data::LibraryNumber;
 use library_inventory::Element;
 use std::fmt;
-use std::io::Write;
+use std::io::{self, Write};
 
 /// Why a record isn't that of a volume's file.
 #[derive(Clone, Copy)]
 pub(crate) enum RecordFault {
-    /// It can't be read, or its text is none of a record.
+    /// Its text is none of a record.
     NoRecord,
     /// It is the record of another file, which had the same name.
     AnotherFile,
@@ -46,7 +46,7 @@ pub(crate) enum Notice<'a> {
         path: &'a str,
         fault: RecordFault,
     },
-    /// So many bytes after those of a volume's file that were on the disk were moved away.
+    /// So many bytes after those of a volume's file that are known to be on the disk were moved away.
     TailMoved {
         path: &'a str,
         count: u64,
@@ -55,6 +55,22 @@ pub(crate) enum Notice<'a> {
     /// A volume's file can't be written.
     Protected {
         path: &'a str,
+    },
+    /// Before a volume's file is written another file had to be, which wasn't.
+    Unwritable {
+        path: &'a str,
+        file: &'a str,
+        error: io::Error,
+    },
+    /// The inventory doesn't name the volume of a file, which is in that element from now on.
+    New {
+        path: &'a str,
+        element: Element,
+    },
+    /// The inventory of a library that is there couldn't be written.
+    InventoryUnwritten {
+        path: &'a str,
+        error: io::Error,
     },
     /// A volume's file isn't there; by the inventory the volume was in that element.
     Missing {
@@ -113,13 +129,32 @@ impl<'a> fmt::Display for Notice<'a> {
             Notice::TailMoved { path, count, tail } => {
                 write!(
                     f,
-                    "vtl: {path}: {count} bytes that were not known to be on the disk when the machine stopped were moved to {tail}"
+                    "vtl: {path}: {count} bytes that were not known to be on the disk were moved to {tail}"
                 )
             }
             Notice::Protected { path } => {
                 write!(
                     f,
                     "vtl: {path}: it can't be written, so the volume is write-protected"
+                )
+            }
+            Notice::Unwritable { path, file, error } => {
+                write!(
+                    f,
+                    "vtl: {path}: cannot write {file}: {error}: the volume is write-protected until the next start"
+                )
+            }
+            Notice::New { path, element } => {
+                let (kind, number) = words_of(*element);
+                write!(
+                    f,
+                    "vtl: {path}: it is new here: the volume is in {kind} {number}"
+                )
+            }
+            Notice::InventoryUnwritten { path, error } => {
+                write!(
+                    f,
+                    "vtl: cannot write {path}: {error}: where volumes are is not saved, and is tried again"
                 )
             }
             Notice::Missing { path, element } => {

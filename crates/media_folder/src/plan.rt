@@ -8,6 +8,7 @@ use crate::fault::FolderFault;
 use crate::folder::{ReadLibrary, read_library, start_of};
 use crate::images::FoundVolumes;
 use crate::inventory_file::kept_inventory;
+use crate::names::FolderPaths;
 use crate::profile::decide_profile;
 use crate::reading::ReadVolume;
 use crate::size::{decide_size, least_volumes};
@@ -16,7 +17,7 @@ use library_inventory::{Element, LibrarySize, PlacedVolume, Start, StartProfile}
 use program_options::WithoutLibrary;
 use std::alloc::AllocError;
 use std::fs::{self, File, Files};
-use std::io::{ErrorKind, Write};
+use std::io::{self, ErrorKind, Write};
 use tape_medium::{MemoryLimit, VolumeTag};
 
 /// The image of a volume, as a start would have it.
@@ -63,7 +64,7 @@ pub fn plan_folder<R: AllocGlobal + Files<File = File>, E: Write>(
     if is_to_be_made(rt, path.as_str(), wanted.without)? {
         return plan_new(rt, &wanted);
     }
-    let folder = path.as_str();
+    let folder = FolderPaths::by_path(path.as_str());
     let kept = kept_inventory(rt, folder, wanted.without)?;
     let read = read_library(rt, folder, &kept, &wanted, volume_size, memory, errors)?;
     planned_of(rt, read)
@@ -75,18 +76,18 @@ fn is_to_be_made<R: AllocGlobal + Files>(
     path: &str,
     without: WithoutLibrary,
 ) -> Result<bool, FolderFault> {
-    let kind = match fs::metadata(rt, path) {
+    let error = match fs::metadata(rt, path) {
         Ok(metadata) if metadata.is_dir() => return Ok(false),
-        Ok(_) => ErrorKind::NotADirectory,
-        Err(error) => error.kind(),
+        Ok(_) => io::Error::from(ErrorKind::NotADirectory),
+        Err(error) => error,
     };
-    match (without, kind) {
+    match (without, error.kind()) {
         (WithoutLibrary::Make, ErrorKind::NotFound) => Ok(true),
         (WithoutLibrary::Make, _) => {
-            Err(FolderFault::CannotMake(String::from_str(rt.alloc(), path)?))
+            Err(FolderFault::CannotMake(String::from_str(rt.alloc(), path)?, error))
         }
-        (WithoutLibrary::Refuse, kind) => {
-            Err(FolderFault::of_folder(String::from_str(rt.alloc(), path)?, kind))
+        (WithoutLibrary::Refuse, _) => {
+            Err(FolderFault::of_folder(String::from_str(rt.alloc(), path)?, error))
         }
     }
 }

@@ -1,10 +1,11 @@
 //! The file of one volume, as it is read at a start.
-ghost use Rattle.std.specs.Prelude.{◌≡◌, ◌<◌, ◌≤◌, true, IfOk};
+ghost use Rattle.std.specs.Prelude.{◌≡◌, ◌<◌, ◌≤◌, true, string_bytes, IfOk};
 ghost use Rattle.tape_medium.specs.Limits.{capacity_limit};
 ghost use Rattle.media_folder.specs.declared.store.FileAccess.TheVariants.{ReadOnly};
 ghost use Rattle.media_folder.specs.Stores.{is_read_only};
 
 use crate::boot::BootId;
+use crate::names::FilePaths;
 use crate::notice::{Notice, tell};
 use crate::refusal::ImageRefusal;
 use crate::size::{bytes_of_blocks, capacity_for};
@@ -33,12 +34,12 @@ pub(crate) struct ReadVolume<'a, R: Files<File = File>> {
 /// The file of the volume with a tag: where it is, and whether the volume is write-protected, whichever user runs the program.
 #[derive(Clone, Copy)]
 pub(crate) struct VolumeFile<'a> {
-    pub path: &'a str,
+    pub paths: &'a FilePaths,
     pub tag: VolumeTag,
     pub is_protected: bool,
 }
 
-/// Reads the file of a volume of a library of a profile, as far as its record lets it be read in this run of the machine, for `volume_size`
+/// Reads the file of a volume of a library of a profile, as far as its record lets it be read, for `volume_size`
 /// bytes of blocks, or for those that it has where these are more, which take no more memory than the limit says.
 pub(crate) fn read_volume<'a, R: AllocGlobal + Files<File = File>, E: Write>(
     rt: &'a R,
@@ -52,23 +53,23 @@ pub(crate) fn read_volume<'a, R: AllocGlobal + Files<File = File>, E: Write>(
     requires some { 0 < volume_size }
     requires within { volume_size ≤ capacity_limit }
     ensures tag { IfOk result (λ read. read.volume.tag ≡ file.entry.tag) }
-    ensures path { IfOk result (λ read. read.store.path ≡ file.entry.path.now) }
+    ensures path { IfOk result (λ read. read.store.path ≡ string_bytes file.entry.paths.now.given) }
     ensures protected { IfOk result (λ read. read.volume.protected ≡ is_read_only read.store.access) }
     ensures as_is_wanted { IfOk result (λ read. file.entry.is_protected ≡ true → read.volume.protected ≡ true) }
 {
-    let store = open_file(rt, file.path, file.is_protected)?;
+    let store = open_file(rt, file.paths, file.is_protected)?;
     let trust = trust_in(rt, &store, boot, errors)?;
     let ReadTape { tape, index } = read_file(
         rt.alloc(),
         profile,
         store.file(),
-        trust.read,
+        trust.length,
         volume_size,
         memory,
     )?;
     let ends = image_ends(rt.alloc(), &index)?;
     let access = store.access();
-    tell_volume(file.path, access, ends.lost(), errors);
+    tell_volume(file.paths.given.as_str(), access, ends.lost(), errors);
     let volume = Volume {
         tag: file.tag,
         protected: access == FileAccess::ReadOnly,
@@ -94,40 +95,45 @@ fn tell_volume<E: Write>(path: &str, access: FileAccess, lost: u64, errors: &mut
 /// Opens a volume's file. It is only read if the volume is write-protected, or if the file can't be written.
 fn open_file<'a, R: AllocGlobal + Files<File = File>>(
     rt: &'a R,
-    path: &str,
+    paths: &FilePaths,
     is_protected: bool,
 ) -> io::Result<FileStore<'a, R>>
-    ensures path { IfOk result (λ store. store.path ≡ path.now) }
+    ensures path { IfOk result (λ store. store.path ≡ string_bytes paths.now.given) }
     ensures protected { IfOk result (λ store. is_protected ≡ true → store.access ≡ ReadOnly) }
 {
     if is_protected {
-        return open_to_read(rt, path);
+        return open_to_read(rt, paths);
     }
-    match OpenOptions::new().read(true).write(true).open(rt, path) {
-        Ok(file) => store_of(rt, path, file, FileAccess::ReadWrite),
-        Err(error) if is_closed(error.kind()) => open_to_read(rt, path),
+    let opened = OpenOptions::new()
+        .read(true)
+        .write(true)
+        .open(rt, paths.opened.as_str());
+    match opened {
+        Ok(file) => store_of(rt, paths, file, FileAccess::ReadWrite),
+        Err(error) if is_closed(error.kind()) => open_to_read(rt, paths),
         Err(error) => Err(error),
     }
 }
 
 fn open_to_read<'a, R: AllocGlobal + Files<File = File>>(
     rt: &'a R,
-    path: &str,
+    paths: &FilePaths,
 ) -> io::Result<FileStore<'a, R>>
-    ensures { IfOk result (λ store. store ≡ record { path = path.now; access = ReadOnly }) }
+    ensures { IfOk result (λ store. store ≡ record { path = string_bytes paths.now.given; access = ReadOnly }) }
 {
-    store_of(rt, path, fs::open(rt, path)?, FileAccess::ReadOnly)
+    let file = fs::open(rt, paths.opened.as_str())?;
+    store_of(rt, paths, file, FileAccess::ReadOnly)
 }
 
 fn store_of<'a, R: AllocGlobal + Files<File = File>>(
     rt: &'a R,
-    path: &str,
+    paths: &FilePaths,
     file: File,
     access: FileAccess,
 ) -> io::Result<FileStore<'a, R>>
-    ensures { IfOk result (λ store. store ≡ record { path = path.now; access = access }) }
+    ensures { IfOk result (λ store. store ≡ record { path = string_bytes paths.now.given; access = access }) }
 {
-    FileStore::new(rt, String::from_str(rt.alloc(), path)?, file, access)
+    FileStore::new(rt, paths.try_clone(rt.alloc())?, file, access)
 }
 
 /// Whether a file can't be written, by what came of opening it.

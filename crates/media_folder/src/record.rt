@@ -1,48 +1,61 @@
 //! The record next to a volume's file, `TAG.synced`: how many bytes of the file are known to be on the disk. It is a text in TOML 1.0.
 use crate::boot::BootId;
-use crate::rights::NEW_FILE;
+use crate::identity::FileIdentity;
+use crate::small_file::make_anew;
 use std::alloc::{AllocError, Global};
 use std::fmt::Write;
 use std::fs::{self, File, Files, OpenFile, OpenOptions};
 use std::io;
-use std::os::unix::fs::{FileExt, OpenOptionsExt};
+use std::os::unix::fs::FileExt;
 use toml::{Table, Value};
 
-/// The version of the text that is written, and the one that is read.
+/// The version of the text that is written.
 const VERSION: i64 = 1;
 
+/// The latest version of a text that is read. It has one more line than the one that is written, which is passed over.
+const LATEST_VERSION: i64 = 2;
+
+/// How many bytes a record has at most, with room for lines that are passed over.
+pub(crate) const MOST_BYTES: u64 = 4096;
+
 /// What the record of a file says.
-#[derive(Clone, Copy, PartialEq, Eq)]
+#[derive(Clone, Copy)]
 pub(crate) struct SyncedRecord {
     /// So many of the file's first bytes are on the disk.
     pub length: u64,
     /// The number of the file on its device.
     pub inode: u64,
-    /// When it was written.
-    pub boot: BootId,
 }
 
-impl SyncedRecord {
-    /// What a text says, if it is one that `text` writes.
-    pub fn read(alloc: Global, text: &str) -> Result<Option<SyncedRecord>, AllocError> {
-        match toml::table_from_str(alloc, text) {
-            Ok(table) => Ok(record_in(&table)),
+/// What a text is.
+#[derive(Clone, Copy)]
+pub(crate) enum RecordText {
+    Record(SyncedRecord),
+    /// A program that is newer than this one wrote it.
+    Newer(i64),
+    /// It is none of a record.
+    Damaged,
+}
+
+impl RecordText {
+    /// What the bytes of a record's file are.
+    pub fn read(alloc: Global, bytes: &[u8]) -> Result<RecordText, AllocError> {
+        match toml::table_from_slice(alloc, bytes) {
+            Ok(table) => Ok(text_of(&table)),
             Err(fault) if fault.is_memory() => Err(AllocError),
-            Err(_) => Ok(None),
+            Err(_) => Ok(RecordText::Damaged),
         }
     }
+}
 
-    /// Its text, which has the same length for every length of one file.
-    fn text(&self, alloc: Global) -> Result<String, AllocError> {
-        let SyncedRecord {
-            length,
-            inode,
-            boot,
-        } = self;
-        let mut text = String::new(alloc);
-        write!(text, "version = {VERSION}\nlength = {length:<20}\n")?;
-        write!(text, "inode = \"{inode}\"\nboot = \"{boot}\"\n")?;
-        Ok(text)
+fn text_of(table: &Table) -> RecordText {
+    match integer_at(table, "version") {
+        Some(version) if version > LATEST_VERSION => RecordText::Newer(version),
+        Some(version) if version >= VERSION => match record_in(table) {
+            Some(record) => RecordText::Record(record),
+            None => RecordText::Damaged,
+        },
+        Some(_) | None => RecordText::Damaged,
     }
 }
 
@@ -55,20 +68,11 @@ fn text_at<'a>(table: &'a Table, key: &str) -> Option<&'a str> {
 }
 
 fn record_in(table: &Table) -> Option<SyncedRecord> {
-    if integer_at(table, "version")? != VERSION {
-        return None;
-    }
     let length = number_of(integer_at(table, "length")?)?;
-    let inode = match text_at(table, "inode")?.parse::<u64>() {
-        Ok(inode) => inode,
-        Err(_) => return None,
-    };
-    let boot = BootId::of(text_at(table, "boot")?);
-    Some(SyncedRecord {
-        length,
-        inode,
-        boot,
-    })
+    match text_at(table, "inode")?.parse::<u64>() {
+        Ok(inode) => Some(SyncedRecord { length, inode }),
+        Err(_) => None,
+    }
 }
 
 fn number_of(value: i64) -> Option<u64> {
@@ -78,13 +82,7 @@ fn number_of(value: i64) -> Option<u64> {
     }
 }
 
-/// The path of the record of a volume's file.
-pub(crate) fn record_path(alloc: Global, image: &str) -> Result<String, AllocError> {
-    let stem = image.strip_suffix(".tap").unwrap_or(image);
-    format!(in alloc; "{stem}.synced")
-}
-
-/// Which file a record is about, and in which run of the machine.
+/// Which file a record is about, and in which run of the machine it is written. Older programs read that; this one doesn't.
 #[derive(Clone, Copy)]
 pub(crate) struct RecordOf {
     pub alloc: Global,
@@ -93,18 +91,18 @@ pub(crate) struct RecordOf {
 }
 
 impl RecordOf {
-    /// The record that so many of its bytes are on the disk.
-    fn record(&self, length: u64) -> SyncedRecord {
-        SyncedRecord {
-            length,
-            inode: self.inode,
-            boot: self.boot,
-        }
+    /// The text of a record that so many of the file's bytes are on the disk. It has the same length for every length of one file.
+    pub fn text(&self, length: u64) -> Result<String, AllocError> {
+        let RecordOf { alloc, inode, boot } = self;
+        let mut text = String::new(*alloc);
+        write!(text, "version = {VERSION}\nlength = {length:<20}\n")?;
+        write!(text, "inode = \"{inode}\"\nboot = \"{boot}\"\n")?;
+        Ok(text)
     }
 
     /// Writes a record into a file.
     fn put(&self, file: &File, length: u64) -> io::Result<()> {
-        let text = self.record(length).text(self.alloc)?;
+        let text = self.text(length)?;
         file.write_all_at(text.as_bytes(), 0)
     }
 }
@@ -114,13 +112,14 @@ impl RecordOf {
 pub(crate) struct RecordFile {
     of: RecordOf,
     file: File,
+    identity: FileIdentity,
 }
 
 impl RecordFile {
-    /// The one at a path, which says so already.
+    /// The one at a path, which has the text of such a record already.
     pub fn open<R: Files<File = File>>(rt: &R, path: &str, of: RecordOf) -> io::Result<RecordFile> {
         let file = OpenOptions::new().write(true).open(rt, path)?;
-        Ok(RecordFile { of, file })
+        RecordFile::of_file(of, file)
     }
 
     /// Another one, which takes the place of the one at a path. The folder isn't brought to the disk.
@@ -131,21 +130,29 @@ impl RecordFile {
         length: u64,
     ) -> io::Result<RecordFile> {
         let new_path = format!(in of.alloc; "{path}.new")?;
-        let file = OpenOptions::new()
-            .write(true)
-            .create(true)
-            .truncate(true)
-            .mode(NEW_FILE)
-            .open(rt, new_path.as_str())?;
+        let file = make_anew(rt, new_path.as_str())?;
         of.put(&file, length)?;
         file.sync_all()?;
         fs::rename(rt, new_path.as_str(), path)?;
-        Ok(RecordFile { of, file })
+        RecordFile::of_file(of, file)
+    }
+
+    fn of_file(of: RecordOf, file: File) -> io::Result<RecordFile> {
+        let identity = FileIdentity::of(&file.metadata()?);
+        Ok(RecordFile { of, file, identity })
     }
 
     /// Notes on the disk that so many bytes are there. The text is shorter than a sector, which a disk writes whole or not at all.
     pub fn write(&self, length: u64) -> io::Result<()> {
         self.of.put(&self.file, length)?;
         self.file.sync_data()
+    }
+
+    /// Whether a path leads to it. Where another record has taken its place, or none, a start doesn't read what is written here.
+    pub fn is_at<R: Files>(&self, rt: &R, path: &str) -> bool {
+        match fs::metadata(rt, path) {
+            Ok(found) => FileIdentity::of(&found) == self.identity,
+            Err(_) => false,
+        }
     }
 }

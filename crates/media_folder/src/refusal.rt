@@ -16,6 +16,17 @@ pub(crate) enum ImageRefusal {
     Doubled,
     #[error("it can't be read")]
     CannotRead,
+    /// The system says why.
+    #[error("it can't be read: {0}")]
+    System(io::Error),
+    /// Its record can't be read, so it isn't known what of it is on the disk.
+    #[error("its record can't be read: {0}")]
+    Record(io::Error),
+    #[error("its record is not a regular file")]
+    RecordNotRegular,
+    /// A program that is newer than this one wrote it.
+    #[error("its record has version {0}, which this program does not know")]
+    RecordVersion(i64),
     /// By a fault at the offset `whole`, in bytes, after so many objects.
     #[error("{fault}, at offset {whole}, after {objects} objects")]
     Faulty {
@@ -28,6 +39,16 @@ pub(crate) enum ImageRefusal {
     TooLarge {
         objects: u32,
     },
+}
+
+impl ImageRefusal {
+    /// Why the record of a volume's file wasn't read.
+    pub fn of_record(error: io::Error) -> ImageRefusal {
+        match error.kind() {
+            ErrorKind::OutOfMemory => ImageRefusal::NoMemory,
+            _ => ImageRefusal::Record(error),
+        }
+    }
 }
 
 /// A block that is longer than those of the library's profile.
@@ -55,7 +76,7 @@ impl From<io::Error> for ImageRefusal {
     fn from(error: io::Error) -> ImageRefusal {
         match error.kind() {
             ErrorKind::OutOfMemory => ImageRefusal::NoMemory,
-            _ => ImageRefusal::CannotRead,
+            _ => ImageRefusal::System(error),
         }
     }
 }

@@ -1,18 +1,20 @@
 ghost use Rattle.std.specs.Prelude.{◌≡◌, string_bytes, IfOk};
+ghost use Rattle.media_folder.specs.declared.store.FileAccess.TheVariants.{ReadOnly};
 
 use crate::boot::BootId;
 use crate::identity::FileIdentity;
-use crate::record::{RecordFile, RecordOf, record_path};
-use crate::rights::NEW_FILE;
+use crate::library_folder::LibraryFolder;
+use crate::names::FilePaths;
+use crate::record::{RecordFile, RecordOf};
+use crate::small_file::make_anew;
 use std::alloc::{AllocError, Global};
-use std::fs::{self, File, Files, OpenFile, OpenOptions};
-use std::io::{self, ErrorKind, Seek, SeekFrom, Write};
+use std::fs::{self, File, Files, OpenFile};
+use std::io::{self, Seek, SeekFrom, Write};
 use std::marker::Model;
-use std::os::unix::fs::OpenOptionsExt;
 use tape_flush::{ImageStore, StoreFault};
 
 /// What may be done with a volume's file.
-#[derive(Clone, Copy)]
+#[derive(Clone, Copy, PartialEq, Eq)]
 pub enum FileAccess {
     ReadWrite,
     /// The file is only read, and stays as it is: its volume is protected.
@@ -21,11 +23,11 @@ pub enum FileAccess {
 
 /// What is known where a volume's file is written.
 #[derive(Clone, Copy)]
-pub(crate) struct Surroundings {
+pub(crate) struct Surroundings<'a> {
     pub alloc: Global,
     pub boot: BootId,
     /// The folder of the library.
-    pub folder: FileIdentity,
+    pub folder: &'a LibraryFolder,
 }
 
 /// How a volume's file is found.
@@ -37,22 +39,18 @@ enum FileName {
     New,
 }
 
-/// The path of a file that is to take the place of a volume's file.
-pub(crate) fn new_path(alloc: Global, path: &str) -> Result<String, AllocError> {
-    format!(in alloc; "{path}.new")
-}
-
-/// A volume's file, which is written at its end, and its record.
+/// A volume's file, which is written at its end, and its record. Both are opened, made and renamed by the folder that was opened, so that
+/// nothing is changed in a folder that took its place; but they are on the disk only if the folder's own path leads to them.
 #[derive(Drop)]
 pub struct FileStore<'a, R: Files<File = File>> {
     files: &'a R,
-    path: String,
+    paths: FilePaths,
     name: FileName,
     file: File,
     identity: FileIdentity,
     access: FileAccess,
     /// None of a file that isn't written.
-    around: Option<Surroundings>,
+    around: Option<Surroundings<'a>>,
     /// None of a new file, and of one that has just taken its place.
     record: Option<RecordFile>,
 }
@@ -63,23 +61,23 @@ impl<'a, R: Files<File = File>> Model for FileStore<'a, R> {
 
     ghost Value = { FileStoreValue };
 
-    ghost view = { λ store. record { path = string_bytes store.path; access = store.access } };
+    ghost view = { λ store. record { path = string_bytes store.paths.given; access = store.access } };
 }
 
 impl<'a, R: Files<File = File>> FileStore<'a, R> {
     /// Of the file at a path, which is open.
     pub(crate) fn new(
         files: &'a R,
-        path: String,
+        paths: FilePaths,
         file: File,
         access: FileAccess,
     ) -> io::Result<FileStore<'a, R>>
-        ensures { IfOk result (λ store. store ≡ record { path = string_bytes path; access = access }) }
+        ensures { IfOk result (λ store. store ≡ record { path = string_bytes paths.given; access = access }) }
     {
         let identity = FileIdentity::of(&file.metadata()?);
         Ok(FileStore {
             files,
-            path,
+            paths,
             name: FileName::Own,
             file,
             identity,
@@ -90,21 +88,38 @@ impl<'a, R: Files<File = File>> FileStore<'a, R> {
     }
 
     /// From now on it is written, and its record.
-    pub(crate) fn begin_record(&mut self, record: RecordFile, around: Surroundings)
+    pub(crate) fn begin_record(&mut self, record: RecordFile, around: Surroundings<'a>)
         ensures { self.new ≡ self.old }
     {
         self.around = Some(around);
         self.record = Some(record);
     }
 
+    /// It isn't written: its volume is protected.
+    pub(crate) fn protect(&mut self)
+        ensures { self.new ≡ record { path = self.old.path; access = ReadOnly } }
+    {
+        self.access = FileAccess::ReadOnly;
+    }
+
     pub(crate) fn identity(&self) -> FileIdentity {
         self.identity
     }
 
-    pub(crate) fn path(&self) -> &str
-        ensures { result.now ≡ self.now.path }
+    pub(crate) fn paths(&self) -> &FilePaths
+        ensures { string_bytes result.now.given ≡ self.now.path }
     {
-        self.path.as_str()
+        &self.paths
+    }
+
+    /// Where its record is.
+    pub(crate) fn record_paths(&self, alloc: Global) -> Result<FilePaths, AllocError> {
+        self.paths.with_other_ending(alloc, ".synced")
+    }
+
+    /// Where the file is that is to take its place.
+    pub(crate) fn new_paths(&self, alloc: Global) -> Result<FilePaths, AllocError> {
+        self.paths.with_ending(alloc, ".new")
     }
 
     pub fn access(&self) -> FileAccess
@@ -117,17 +132,17 @@ impl<'a, R: Files<File = File>> FileStore<'a, R> {
         &self.file
     }
 
-    /// Whether it may be written: a file under the volume's name is only while its record says what of it is on the disk.
-    fn may_be_written(&self) -> io::Result<()> {
-        match (self.name, &self.record) {
-            (FileName::New, _) | (FileName::Own, Some(_)) => Ok(()),
-            (FileName::Own, None) => Err(changed()),
+    /// What is known where it is written: a file under the volume's name is written only while its record says what of it is on the disk.
+    fn written(&self) -> Result<Surroundings<'a>, StoreFault> {
+        match (self.name, &self.record, self.around) {
+            (FileName::New, _, Some(around)) | (FileName::Own, Some(_), Some(around)) => Ok(around),
+            (FileName::Own, None, _) | (_, _, None) => Err(StoreFault::Changed),
         }
     }
 
     /// Cuts the file back to `size` bytes, if it has more.
-    fn cut(&self, size: u64) -> io::Result<()> {
-        self.may_be_written()?;
+    fn cut(&self, size: u64) -> Result<(), StoreFault> {
+        self.written()?;
         if self.file.metadata()?.len() > size {
             self.file.set_len(size)?;
         }
@@ -135,16 +150,17 @@ impl<'a, R: Files<File = File>> FileStore<'a, R> {
     }
 
     /// Adds bytes at the end, which has to be at an offset.
-    fn add(&mut self, offset: u64, bytes: &[u8]) -> io::Result<()> {
-        self.may_be_written()?;
+    fn add(&mut self, offset: u64, bytes: &[u8]) -> Result<(), StoreFault> {
+        self.written()?;
         if self.file.seek(SeekFrom::End(0))? != offset {
-            return Err(changed());
+            return Err(StoreFault::Changed);
         }
-        self.file.write_all(bytes)
+        self.file.write_all(bytes)?;
+        Ok(())
     }
 
     /// Brings the file to the disk. Where its path doesn't lead to it any more, another one is found at the next start, or none.
-    fn bring(&self) -> io::Result<()> {
+    fn bring(&self) -> Result<(), StoreFault> {
         self.file.sync_data()?;
         match self.name {
             FileName::Own => self.check_path(),
@@ -152,107 +168,83 @@ impl<'a, R: Files<File = File>> FileStore<'a, R> {
         }
     }
 
-    fn check_path(&self) -> io::Result<()> {
-        let found = fs::metadata(self.files, self.path.as_str())?;
+    /// Looks whether the path that was given leads to the file.
+    fn check_path(&self) -> Result<(), StoreFault> {
+        let found = fs::metadata(self.files, self.paths.given.as_str())?;
         if FileIdentity::of(&found) == self.identity {
             Ok(())
         } else {
-            Err(changed())
+            Err(StoreFault::Changed)
         }
     }
 
-    /// Notes how much is on the disk. A new file takes its place first, on the disk too, since the record before it was that of another
-    /// file; by a record of another file all of a file is read, and of this one all is on the disk.
-    fn note_length(&mut self, size: u64) -> io::Result<()> {
-        if let Some(record) = &self.record {
-            return record.write(size);
-        }
-        let Some(
-            Surroundings {
-                alloc,
-                boot,
-                folder,
-            },
-        ) = self.around
-        else {
-            return Err(changed());
+    /// Notes how much is on the disk, in its record, or in another one where that isn't there any more.
+    fn note_length(&mut self, size: u64) -> Result<(), StoreFault> {
+        let around = match self.around {
+            Some(around) => around,
+            None => return Err(StoreFault::Changed),
         };
-        let folder = opened_folder(self.files, self.path.as_str(), folder)?;
+        if let Some(record) = &self.record {
+            record.write(size)?;
+            let path = self.record_paths(around.alloc)?;
+            if record.is_at(self.files, path.opened.as_str()) {
+                return Ok(());
+            }
+        }
+        around.folder.look(self.files)?;
+        self.take_place(around)?;
+        self.begin_another(around, size)
+    }
+
+    /// A new file takes its place, on the disk too, before its record begins, since the record before it was that of another file; by a
+    /// record of another file all of a file is read, and of this one all is on the disk.
+    fn take_place(&mut self, around: Surroundings<'a>) -> Result<(), StoreFault> {
         match self.name {
             FileName::Own => {}
             FileName::New => {
-                let new_path = new_path(alloc, self.path.as_str())?;
-                fs::rename(self.files, new_path.as_str(), self.path.as_str())?;
+                let new = self.new_paths(around.alloc)?;
+                fs::rename(self.files, new.opened.as_str(), self.paths.opened.as_str())?;
                 self.name = FileName::Own;
             }
         }
-        folder.sync_all()?;
-        let path = record_path(alloc, self.path.as_str())?;
-        let inode = self.identity.number();
-        let of = RecordOf { alloc, inode, boot };
-        let record = RecordFile::begin(self.files, path.as_str(), of, size)?;
-        folder.sync_all()?;
+        around.folder.sync()?;
+        self.check_path()
+    }
+
+    /// Begins another record, in place of the one that was there, if one was.
+    fn begin_another(&mut self, around: Surroundings<'a>, size: u64) -> Result<(), StoreFault> {
+        self.record = None;
+        let path = self.record_paths(around.alloc)?;
+        let of = self.record_of(around);
+        let record = RecordFile::begin(self.files, path.opened.as_str(), of, size)?;
+        around.folder.sync()?;
         self.record = Some(record);
         Ok(())
     }
 
+    /// What its record is about.
+    pub(crate) fn record_of(&self, around: Surroundings<'a>) -> RecordOf {
+        RecordOf {
+            alloc: around.alloc,
+            inode: self.identity.number(),
+            boot: around.boot,
+        }
+    }
+
     /// A new file for the same volume, under a name of its own.
-    fn new_file(&self) -> io::Result<FileStore<'a, R>> {
-        let Some(around) = self.around else {
-            return Err(changed());
+    fn new_file(&self) -> Result<FileStore<'a, R>, StoreFault> {
+        let around = match self.around {
+            Some(around) => around,
+            None => return Err(StoreFault::Changed),
         };
-        let path = String::from_str(around.alloc, self.path.as_str())?;
-        let new_path = new_path(around.alloc, self.path.as_str())?;
-        let file = OpenOptions::new()
-            .write(true)
-            .create(true)
-            .truncate(true)
-            .mode(NEW_FILE)
-            .open(self.files, new_path.as_str())?;
-        let mut store = FileStore::new(self.files, path, file, FileAccess::ReadWrite)?;
+        around.folder.look(self.files)?;
+        let paths = self.paths.try_clone(around.alloc)?;
+        let new = self.new_paths(around.alloc)?;
+        let file = make_anew(self.files, new.opened.as_str())?;
+        let mut store = FileStore::new(self.files, paths, file, FileAccess::ReadWrite)?;
         store.name = FileName::New;
         store.around = Some(around);
         Ok(store)
-    }
-}
-
-/// The folder of a file, if it is still the one that it was.
-fn opened_folder<R: Files<File = File>>(
-    files: &R,
-    path: &str,
-    identity: FileIdentity,
-) -> io::Result<File> {
-    let folder = match path.rsplit_once('/') {
-        Some((folder, _)) => fs::open(files, folder)?,
-        None => fs::open(files, ".")?,
-    };
-    if FileIdentity::of(&folder.metadata()?) == identity {
-        Ok(folder)
-    } else {
-        Err(changed())
-    }
-}
-
-/// Something else has changed the file, or taken its place.
-fn changed() -> io::Error {
-    io::Error::from(ErrorKind::Other)
-}
-
-/// Why a file was not written.
-fn fault_of(kind: ErrorKind) -> StoreFault {
-    match kind {
-        ErrorKind::StorageFull | ErrorKind::QuotaExceeded | ErrorKind::FileTooLarge => {
-            StoreFault::Full
-        }
-        _ => StoreFault::Failed,
-    }
-}
-
-/// How it went.
-fn told(done: io::Result<()>) -> Result<(), StoreFault> {
-    match done {
-        Ok(()) => Ok(()),
-        Err(error) => Err(fault_of(error.kind())),
     }
 }
 
@@ -263,25 +255,22 @@ impl<'a, R: Files<File = File>> ImageStore for FileStore<'a, R> {
     ghost does = { λ before call after done. tt };
 
     fn truncate(&mut self, size: u64) -> Result<(), StoreFault> {
-        told(self.cut(size))
+        self.cut(size)
     }
 
     fn append(&mut self, offset: u64, bytes: &[u8]) -> Result<(), StoreFault> {
-        told(self.add(offset, bytes))
+        self.add(offset, bytes)
     }
 
     fn sync(&mut self) -> Result<(), StoreFault> {
-        told(self.bring())
+        self.bring()
     }
 
     fn note(&mut self, size: u64) -> Result<(), StoreFault> {
-        told(self.note_length(size))
+        self.note_length(size)
     }
 
     fn renewed(&self) -> Result<FileStore<'a, R>, StoreFault> {
-        match self.new_file() {
-            Ok(store) => Ok(store),
-            Err(error) => Err(fault_of(error.kind())),
-        }
+        self.new_file()
     }
 }

@@ -40,13 +40,20 @@ pub enum VolumeFault {
     Refused(AddFault),
 }
 
-/// Why a text isn't that of an inventory.
-#[derive(Clone, Copy, Debug, Error)]
+/// Why a text isn't that of an inventory. Lines are counted from 1.
+#[derive(Debug, Drop, Error)]
 pub enum ReadFault {
     #[error("want of memory")]
     NoMemory,
-    #[error("the text is not TOML")]
-    NoToml,
+    #[error("it is not a regular file")]
+    NotRegular,
+    #[error("it has more than 1048576 bytes")]
+    TooLong,
+    #[error("line {line}: the text is not TOML")]
+    NoToml { line: usize },
+    /// A key at the top, of a volume or of a source is none that it may have there. It may be meant for another place.
+    #[error("line {line}: unknown key {key}")]
+    UnknownKey { line: usize, key: String },
     #[error("unknown version")]
     UnknownVersion(i64),
     /// A key isn't there, or its value isn't one that it may have.

@@ -1,50 +1,34 @@
 //! How much of a volume's file may be read, by its record.
 use crate::boot::BootId;
 use crate::notice::{Notice, RecordFault, tell};
-use crate::record::{SyncedRecord, record_path};
+use crate::record::{MOST_BYTES, RecordOf, RecordText, SyncedRecord};
 use crate::refusal::ImageRefusal;
+use crate::small_file::{SmallFileFault, read_small_file};
 use crate::store::FileStore;
-use std::alloc::AllocError;
-use std::fs::{self, File, Files, OpenFile};
-use std::io::{ErrorKind, Write};
+use std::fs::{File, Files, OpenFile};
+use std::io::Write;
 
-/// How much of a volume's file may be read, and how much of it is known to be on the disk.
+/// How much of a volume's file may be read: no host has an answer by which more of it is kept.
 #[derive(Clone, Copy)]
 pub(crate) struct Trust {
-    /// So many of its first bytes are read.
-    pub read: u64,
-    /// So many are known to be on the disk, as the record says.
-    pub synced: u64,
-    /// What the record says, if it is one of this file.
-    pub record: Option<SyncedRecord>,
+    /// So many of its first bytes are on the disk, as its record says. Without a record of this file they are all that it has.
+    pub length: u64,
+    /// Whether its record has just the text that says so.
+    pub is_recorded: bool,
 }
 
 impl Trust {
     /// Without a record all of the file is read.
     fn without_record(length: u64) -> Trust {
         Trust {
-            read: length,
-            synced: length,
-            record: None,
-        }
-    }
-
-    /// By a record of this file. If the machine was booted since, it isn't known what the file has after the bytes that were on the disk.
-    fn by(record: SyncedRecord, length: u64, boot: BootId) -> Trust {
-        let read = if record.boot.is_same(&boot) {
-            length
-        } else {
-            record.length
-        };
-        Trust {
-            read,
-            synced: record.length,
-            record: Some(record),
+            length,
+            is_recorded: false,
         }
     }
 }
 
-/// How much of a volume's file may be read. A record that isn't one of this file is reported, and passed over.
+/// How much of a volume's file may be read. A record that isn't one of this file is reported, and passed over. One that can't be read is no
+/// such record: the volume is refused.
 pub(crate) fn trust_in<'a, R: AllocGlobal + Files<File = File>, E: Write>(
     rt: &R,
     store: &FileStore<'a, R>,
@@ -52,34 +36,48 @@ pub(crate) fn trust_in<'a, R: AllocGlobal + Files<File = File>, E: Write>(
     errors: &mut E,
 ) -> Result<Trust, ImageRefusal> {
     let length = store.file().metadata()?.len();
-    let path = record_path(rt.alloc(), store.path())?;
-    let inode = store.identity().number();
-    match record_at(rt, path.as_str(), inode, length)? {
-        Ok(Some(record)) => Ok(Trust::by(record, length, boot)),
-        Ok(None) => Ok(Trust::without_record(length)),
+    let path = store.record_paths(rt.alloc())?;
+    let bytes = match read_small_file(rt, path.opened.as_str(), MOST_BYTES) {
+        Ok(Some(bytes)) => bytes,
+        Ok(None) => return Ok(Trust::without_record(length)),
+        Err(SmallFileFault::NotRegular) => return Err(ImageRefusal::RecordNotRegular),
+        Err(SmallFileFault::System(error)) => return Err(ImageRefusal::of_record(error)),
+        Err(SmallFileFault::TooLong) => {
+            let (path, fault) = (path.given.as_str(), RecordFault::NoRecord);
+            tell(errors, &Notice::RecordIgnored { path, fault });
+            return Ok(Trust::without_record(length));
+        }
+    };
+    let of = RecordOf {
+        alloc: rt.alloc(),
+        inode: store.identity().number(),
+        boot,
+    };
+    match record_of(of, &bytes, length)? {
+        Ok(record) => Ok(Trust {
+            length: record.length,
+            is_recorded: of.text(record.length)?.as_bytes() == bytes.as_slice(),
+        }),
         Err(fault) => {
-            let path = path.as_str();
+            let path = path.given.as_str();
             tell(errors, &Notice::RecordIgnored { path, fault });
             Ok(Trust::without_record(length))
         }
     }
 }
 
-/// The record at a path, if there is one, and it is of a file with that number and of so many bytes; or why it isn't.
-fn record_at<R: AllocGlobal + Files>(
-    rt: &R,
-    path: &str,
-    inode: u64,
+/// The record that the bytes of its file are, if it is of a file with that number and of so many bytes; or why it isn't.
+fn record_of(
+    of: RecordOf,
+    bytes: &[u8],
     length: u64,
-) -> Result<Result<Option<SyncedRecord>, RecordFault>, AllocError> {
-    let text = match fs::read_to_string(rt, path) {
-        Ok(text) => text,
-        Err(error) => return unread_record(error.kind()),
+) -> Result<Result<SyncedRecord, RecordFault>, ImageRefusal> {
+    let record = match RecordText::read(of.alloc, bytes)? {
+        RecordText::Record(record) => record,
+        RecordText::Newer(version) => return Err(ImageRefusal::RecordVersion(version)),
+        RecordText::Damaged => return Ok(Err(RecordFault::NoRecord)),
     };
-    let Some(record) = SyncedRecord::read(rt.alloc(), text.as_str())? else {
-        return Ok(Err(RecordFault::NoRecord));
-    };
-    if record.inode != inode {
+    if record.inode != of.inode {
         return Ok(Err(RecordFault::AnotherFile));
     }
     if record.length > length {
@@ -88,14 +86,5 @@ fn record_at<R: AllocGlobal + Files>(
             length,
         }));
     }
-    Ok(Ok(Some(record)))
-}
-
-/// What it means that a record couldn't be read.
-fn unread_record(kind: ErrorKind) -> Result<Result<Option<SyncedRecord>, RecordFault>, AllocError> {
-    match kind {
-        ErrorKind::NotFound => Ok(Ok(None)),
-        ErrorKind::OutOfMemory => Err(AllocError),
-        _ => Ok(Err(RecordFault::NoRecord)),
-    }
+    Ok(Ok(record))
 }

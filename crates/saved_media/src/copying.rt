@@ -303,5 +303,9 @@ pub(crate) fn fault_of_store(fault: StoreFault) -> KeepFault {
     match fault {
         StoreFault::Full => KeepFault::Full,
         StoreFault::Failed => KeepFault::Failed,
+        StoreFault::Changed => KeepFault::Changed,
+        StoreFault::Moved => KeepFault::Moved,
+        StoreFault::LockLost => KeepFault::LockLost,
+        StoreFault::System(error) => KeepFault::System(error),
     }
 }

@@ -75,6 +75,12 @@ impl<S: ImageStore + Drop, N: InventoryStore + Drop> MediaKeeper<S, N> {
         })
     }
 
+    /// The inventory couldn't be written when the library was opened. It is tried again, as one that can't be written later is.
+    pub fn note_unwritten_inventory(&self) {
+        // What fails was reported.
+        let _ = self.inventory_watch.note(Err(KeepFault::Failed));
+    }
+
     /// What copies volumes for a purpose.
     fn copying<'a, R: Wait, T: TapeSource<Device>, H: KeepListener>(
         &'a self,

@@ -68,7 +68,13 @@ impl<S: ImageStore + Drop> ImageInUse<S> {
         match written {
             Ok(Extent::All) => self.failures = 0,
             Ok(Extent::Part) => {}
-            Err(KeepFault::Failed) => self.failures = self.failures.saturating_add(1),
+            Err(
+                KeepFault::Failed
+                | KeepFault::Changed
+                | KeepFault::Moved
+                | KeepFault::LockLost
+                | KeepFault::System(_),
+            ) => self.failures = self.failures.saturating_add(1),
             Err(KeepFault::Full) | Err(KeepFault::NoMemory) | Err(KeepFault::NoImage) => {
                 if self.is_given_up {
                     self.failures = self.failures.saturating_add(1);

@@ -1,13 +1,44 @@
+use std::alloc::AllocError;
+use std::io::{self, ErrorKind};
 use thiserror::Error;
 
 /// Why a file did not take what it was given.
-#[derive(Clone, Copy, Debug, PartialEq, Eq, Error)]
+#[derive(Clone, Copy, Debug, Error)]
 pub enum StoreFault {
     /// There is no room for more bytes.
     #[error("disk full")]
     Full,
     #[error("disk error")]
     Failed,
+    /// Something else has changed the file, or taken its place.
+    #[error("something else has changed the file, or taken its place")]
+    Changed,
+    /// The path of the folder leads to another one, or nowhere.
+    #[error("the path of its folder no longer leads there")]
+    Moved,
+    /// Another program may have the folder.
+    #[error("the lock of its folder is lost")]
+    LockLost,
+    /// The system says why.
+    #[error("{0}")]
+    System(io::Error),
+}
+
+impl From<io::Error> for StoreFault {
+    fn from(error: io::Error) -> StoreFault {
+        match error.kind() {
+            ErrorKind::StorageFull | ErrorKind::QuotaExceeded | ErrorKind::FileTooLarge => {
+                StoreFault::Full
+            }
+            _ => StoreFault::System(error),
+        }
+    }
+}
+
+impl From<AllocError> for StoreFault {
+    fn from(error: AllocError) -> StoreFault {
+        StoreFault::System(io::Error::from(error))
+    }
 }
 
 /// A file that keeps an image, and next to it a record on the disk of how much of the file is known to be there. Each call may fail, and

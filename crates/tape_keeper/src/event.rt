@@ -1,4 +1,4 @@
-use std::{fmt, str};
+use std::{fmt, io, str};
 use tape_medium::VolumeTag;
 
 /// What is kept of a library.
@@ -17,6 +17,14 @@ pub enum KeepFault {
     Full,
     /// The disk failed.
     Failed,
+    /// Something else has changed the file, or taken its place.
+    Changed,
+    /// The path of the folder leads to another one, or nowhere.
+    Moved,
+    /// Another program may have the folder.
+    LockLost,
+    /// The system says why.
+    System(io::Error),
     NoMemory,
     /// There is no image of the volume.
     NoImage,
@@ -53,13 +61,7 @@ impl fmt::Display for KeepEvent {
     fn fmt<W: fmt::Write>(&self, f: &mut fmt::Formatter<W>) -> fmt::Result {
         let thing = self.thing;
         match self.change {
-            KeepChange::Fails(fault) => {
-                write!(
-                    f,
-                    "vtl: {thing} could not be written: {}",
-                    fault_words(fault)
-                )
-            }
+            KeepChange::Fails(fault) => { write!(f, "vtl: {thing} could not be written: {fault}") }
             KeepChange::GoesOn => write!(f, "vtl: {thing} is written again"),
             KeepChange::Lost => write!(f, "vtl: {thing} is not whole on the disk"),
         }
@@ -79,11 +81,19 @@ fn name_in(tag: &VolumeTag) -> &str {
     str::from_utf8(bytes).unwrap_or("?")
 }
 
-fn fault_words(fault: KeepFault) -> &'static str {
-    match fault {
-        KeepFault::Full => "disk full",
-        KeepFault::Failed => "disk error",
-        KeepFault::NoMemory => "want of memory",
-        KeepFault::NoImage => "it has no image",
+impl fmt::Display for KeepFault {
+    fn fmt<W: fmt::Write>(&self, f: &mut fmt::Formatter<W>) -> fmt::Result {
+        match self {
+            KeepFault::Full => f.write_str("disk full"),
+            KeepFault::Failed => f.write_str("disk error"),
+            KeepFault::Changed => f.write_str(
+                "something else has changed the file, or taken its place",
+            ),
+            KeepFault::Moved => f.write_str("the path of its folder no longer leads there"),
+            KeepFault::LockLost => f.write_str("the lock of its folder is lost"),
+            KeepFault::System(error) => write!(f, "{error}"),
+            KeepFault::NoMemory => f.write_str("want of memory"),
+            KeepFault::NoImage => f.write_str("it has no image"),
+        }
     }
 }
