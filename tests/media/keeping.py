@@ -3,14 +3,13 @@ file can't be brought to the disk, or can't be written."""
 import contextlib
 import os
 import pathlib
-import platform
 import resource
-import struct
 import sys
 import time
 import typing
 
 from compare import holds, same
+from failing_calls import FailingCalls
 from folder import FIRST, HI, MARK, NEW, ODD, Folder, block, ended, loaded, write_protected
 from frames import B
 from host import WRITE_PROTECTED, Host, good
@@ -71,34 +70,16 @@ def bound(tried: Tried, lines: str) -> Tried:
     return Tried(str(path), tried.folder)
 
 
-# Instructions of a filter for system calls (seccomp): fdatasync fails with EIO, and all others are let through.
-FDATASYNC = {"x86_64": 75, "aarch64": 83}
-NO_FDATASYNC = [(0x20, 0, 0, 0), (0x15, 0, 1, FDATASYNC.get(platform.machine(), 75)), (0x06, 0, 0, 0x5_0005), (0x06, 0, 0, 0x7FFF_0000)]
-
-
-def without_syncs(tried: Tried) -> Tried:
-    """The program, whose files can't be brought to the disk by fdatasync."""
-    filters = b"".join(struct.pack("=HBBI", *instruction) for instruction in NO_FDATASYNC)
-    return bound(tried, f"""
-class Program(ctypes.Structure):
-    _fields_ = [("length", ctypes.c_ushort), ("filters", ctypes.c_char_p)]
-
-
-libc = ctypes.CDLL(None)
-if libc.prctl(38, 1, 0, 0, 0) or libc.prctl(22, 2, ctypes.byref(Program({len(NO_FDATASYNC)}, {filters!r}))):
-    sys.exit("no filter for system calls")
-""")
-
-
 def never_synced(tried: Tried) -> None:
     """A disk that can't take what a file has shows by which commands that is tried. The volume lies in the drive from the start on, since a
     move would try it too; and it was served before, since else its record is brought to the disk at the start."""
-    folder = Folder(tried, VOL00001=b"")
+    calls, folder = FailingCalls(tried), Folder(tried, VOL00001=b"")
     folder.put("library.toml", b'version = 1\ndrives = 1\nslots = 1\nportals = 0\n[[volume]]\ntag = "VOL00001"\ndata_transfer = 0\n')
     with folder.served() as server:
         ended(server)
-    folder.tried = without_syncs(tried)
-    with folder.served() as server:
+    calls.fail("fdatasync", "/VOL00001.tap")
+    calls.fail("fdatasync", "/VOL00001.tap.new")
+    with folder.served(environment=calls.environment) as server:
         host = Host(server)
         host.meets(DRIVE)
         host.writes(b"hi")
