@@ -26,8 +26,9 @@ serve() {
 }
 
 # Becomes the program, or serves with it. With a number of sessions the end of input is no end: a signal then ends the program
-# itself, at once.
+# itself, at once. Signals that ask for nothing here, and would end it without a save, are ignored.
 run() {
+    trap '' USR1 USR2 ALRM
     case "${1-} $*" in
         *" --sessions"*) ;;
         "serve "*) serve "$@" ;;
