@@ -1,20 +1,19 @@
-"""Each call that brings something to the disk, failed alone by its name: what a host asked for has no answer, or nothing is served, or the
+"""Each call that brings something to the disk, failed alone by its name: what a host asked for has no answer, or nothing is written, or the
 server's end says so. Once the call goes well again, so does what waited for it."""
 import errno
 import json
-import os
 import typing
 
 from compare import holds, same
 from failing_calls import FailingCalls
 from folder import FIRST, HI, MARK, THREE, Folder, ended, loaded
 from frames import B
-from host import FIRST_DRIVE, FIRST_STORAGE, Host
+from host import FIRST_DRIVE, FIRST_STORAGE, WRITE_PROTECTED, Host
 from play import Row, Tried
 from program import run
 from records import ANOTHER, RECORD, TAIL, put_record, record_of
-from scsi import CHANGER, DRIVE, FILEMARK, NO_FILEMARK, move
-from server import Server
+from scsi import CHANGER, DRIVE, FILEMARK, NO_FILEMARK, move, write
+from server import refused
 from term import wait_until
 
 IMAGE, NEW_IMAGE, NEW_RECORD, INVENTORY, FOLDER = f"/{FIRST}", f"/{FIRST}.new", f"/{RECORD}.new", "/library.toml.new", "/media"
@@ -74,7 +73,7 @@ def withheld(of: Withheld) -> typing.Callable[[Tried], None]:
             await_failing(tried, NOTHING)
             fail(calls, of.failing)
             host.is_ended_by(DRIVE, FILEMARK)
-            server.reported.wait_for("vtl: volume VOL00001 could not be written: disk error")
+            server.reported.wait_for("vtl: volume VOL00001 could not be written: Input/output error (os error 5)\n")
             last = of.failing[-1]
             calls.await_failed(last.call, last.suffix)
             await_failing(tried, {"volumes": ["VOL00001"], "inventory": False})
@@ -120,7 +119,7 @@ def moved(suffix: str, is_whole: bool) -> typing.Callable[[Tried], None]:
 
 
 class Started(typing.NamedTuple):
-    """What isn't brought to the disk, what fails, and the file of the folder that is said not to be written. Then nothing is served."""
+    """What isn't brought to the disk, what fails, and the file of the folder that is said not to be written."""
 
     shows: str
     failing: Failing
@@ -134,33 +133,48 @@ BEFORE_A_POWER_CUT = len(HI), ANOTHER
 STARTED = {
     "image": Started("an image without a record", Failing("fdatasync", IMAGE), RECORD),
     "record": Started("the record of an image", Failing("fsync", NEW_RECORD), RECORD),
-    "inventory": Started("the inventory", Failing("fsync", INVENTORY), "library.toml.new"),
     "tail": Started("a tail that is moved away", Failing("fsync", f"/{TAIL}"), TAIL, THREE, BEFORE_A_POWER_CUT),
-    "name-of-tail": Started("the name of a tail", Failing("fsync", FOLDER), "", THREE, BEFORE_A_POWER_CUT),
+    "name-of-tail": Started("the name of a tail", Failing("fsync", FOLDER, last=1), TAIL, THREE, BEFORE_A_POWER_CUT),
     "cut": Started("an image whose tail was moved away", Failing("fdatasync", IMAGE), FIRST, THREE, BEFORE_A_POWER_CUT),
 }
 
 
 def started(of: Started) -> typing.Callable[[Tried], None]:
+    """The volume is served write-protected, and the next start, at which nothing fails, serves it as ever."""
     def play(tried: Tried) -> None:
         calls, folder = FailingCalls(tried), Folder(tried, VOL00001=of.image)
         if of.record is not None:
             put_record(folder, *of.record)
         fail(calls, [of.failing])
-        command = [tried.program, "serve", "--socket", tried.path("socket"), *folder.words(), "--volumes", "1"]
-        status, _, reported = run(command, env={**os.environ, **calls.environment})
-        holds("what is reported", reported, f"vtl: device fault\nvtl: cannot write {folder.path_of(of.path).rstrip('/')}")
-        same("the status", status, 4)
-        same("whether it failed", [line.split()[0] for line in calls.failed()], [of.failing.call])
+        with folder.served(environment=calls.environment) as server:
+            why = "Input/output error (os error 5): the volume is write-protected until the next start\n"
+            holds("what is reported", server.reported.text, f"vtl: {folder.path_of(FIRST)}: cannot write {folder.path_of(of.path)}: {why}")
+            same("whether it failed", [line.split()[0] for line in calls.failed()], [of.failing.call])
+            host = Host(server)
+            host.loads()
+            host.reads(b"hi")
+            host.asks(DRIVE, write(1), WRITE_PROTECTED, b"\1")
+            ended(server)
         calls.mend()
         with folder.served(environment=calls.environment) as server:
             host = Host(server)
-            host.loads()
-            host.reads(*([b"hi"] if of.image == HI or of.record else [b"hi", None, b"odd"]))
+            host.meets(DRIVE)
+            host.reads(b"hi")
+            host.asks(DRIVE, FILEMARK)
             ended(server)
-        folder.same_image("the image once it goes well", FIRST, HI)
+        folder.same_image("the image once it goes well", FIRST, HI + MARK)
 
     return play
+
+
+def new_library(tried: Tried) -> None:
+    """Nothing is served of a library that is made where its inventory can't be brought to the disk."""
+    calls, folder = FailingCalls(tried), Folder(tried, VOL00001=HI)
+    fail(calls, [Failing("fsync", INVENTORY)])
+    fault = f"vtl: device fault\nvtl: cannot write {folder.path_of('library.toml.new')}: Input/output error (os error 5)\n"
+    same("the status and what is reported", refused(
+        tried, "--socket", tried.path("socket"), *folder.words(), environment=calls.environment), (4, fault))
+    same("what failed", calls.failed(), [f"fsync {folder.path_of('library.toml.new')}"])
 
 
 def at_the_end(tried: Tried) -> None:
@@ -181,7 +195,8 @@ ROWS = [
     *(Row(f"sync-of-{name}", f"a filemark is answered once {of.shows}", withheld(of)) for name, of in WITHHELD.items()),
     Row("sync-of-inventory", "a move is answered once the new inventory is on the disk", moved(INVENTORY, True)),
     Row("sync-of-inventory-name", "a move is answered once the name of the new inventory is on the disk", moved(FOLDER, False)),
-    *(Row(f"sync-at-start-{name}", f"nothing is served where {of.shows} can't be brought to the disk", started(of))
+    *(Row(f"sync-at-start-{name}", f"a volume is served write-protected where {of.shows} can't be brought to the disk", started(of))
       for name, of in STARTED.items()),
+    Row("sync-of-new-library", "no library is made whose inventory can't be brought to the disk", new_library),
     Row("sync-at-the-end", "a server doesn't end well where what a WRITE wrote can't be brought to the disk", at_the_end),
 ]
