@@ -5,7 +5,7 @@ import typing
 
 import scsi
 from compare import same
-from folder import END_OF_MEDIUM, FIRST, GAP, HI, MARK, NEW, ODD, THREE, Folder, block, ended, write_protected
+from folder import END_OF_MEDIUM, FIRST, GAP, HI, LOCK, MARK, NEW, ODD, THREE, Folder, block, ended, write_protected
 from host import Host, overflow, standing_at
 from play import Row, Tried
 from scsi import CHANGER, DRIVE, FILEMARK, LONGEST_BLOCK, NO_FILEMARK, READ_POSITION, REWIND, locate
@@ -178,7 +178,7 @@ def others(tried: Tried) -> None:
     (folder.path / "H.tap").symlink_to(kept)
     with folder.served() as server:
         doubled, other = "it is also another volume's file", "it is not a regular file"
-        words = {"B": doubled, "C": other, "D": other, "E": other, "G": "it can't be read", "Z": doubled}
+        words = {"B": doubled, "C": other, "D": other, "E": other, "G": "it can't be read: No such file or directory (os error 2)", "Z": doubled}
         same("what is reported", server.reported_lines(), [
             f"vtl: {folder.path_of(f'{name}.tap')}: {why}: the volume is left out" for name, why in words.items()])
         host = Host(server)
@@ -203,7 +203,7 @@ def modes(tried: Tried) -> None:
             server.end()
             server.ends()
     made = {path.name: path.stat().st_mode & 0o777 for path in [folder.parent, folder, *folder.iterdir()]}
-    same("the modes", made, {"above": 0o700, "media": 0o700, FIRST: 0o600, "VOL00001.synced": 0o600, "library.toml": 0o600})
+    same("the modes", made, {"above": 0o700, "media": 0o700, FIRST: 0o600, "VOL00001.synced": 0o600, LOCK: 0o600, "library.toml": 0o600})
     for path, mode in [(folder, 0o750), (folder / FIRST, 0o602), (folder / "library.toml", 0o644)]:
         was = path.stat().st_mode
         path.chmod(mode)
@@ -235,7 +235,7 @@ def checked(tried: Tried) -> None:
     same("what is there then", {name: folder.bytes_of(name) for name in folder.names() if name != "F.tap"}, there)
     (folder.path / "B.tap").unlink()
     (folder.path / "B.tap").symlink_to("nowhere")
-    faulty = faulty.replace(whole.splitlines()[1], "B: it can't be read")
+    faulty = faulty.replace(whole.splitlines()[1], "B: it can't be read: No such file or directory (os error 2)")
     reported = f"vtl: device fault\nvtl: {folder.path}: volumes that can't be read: 1\n"
     same("what is printed of a file that can't be read", folder.checked(), (4, faulty, reported))
 

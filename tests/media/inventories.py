@@ -109,9 +109,6 @@ WRONG = {
     "volumes": ("volumes of another name", f'{SIZE}\n[[volumes]]\ntag = "A"\nstorage = 3\n', "line 6: unknown key volumes"),
     "key-of-a-missing-volume": (
         "a key of a volume that is missing", f'{SIZE}{ONE}[[missing]]\ntag = "B"\nstorage = 2\nnote = "away"\n', "line 11: unknown key note"),
-    "source-of-the-default-profile": (
-        "a source in a library of the default profile", f'{SIZE}[[volume]]\ntag = "A"\ndata_transfer = 0\nsource = {{ storage = 1 }}\n',
-        "line 8: unknown key source"),
     "key-of-a-source": (
         "a key of a source", f'{HOSTS}[[volume]]\ntag = "A"\ndata_transfer = 0\nsource = {{ storage = 1, slot = 2 }}\n', "line 10: unknown key slot"),
     "version-0": ("a version before the first", "version = 0\n", "unknown version 0"),

@@ -21,6 +21,7 @@ from server import Server
 LONG = block(b"hi" * 100)
 
 FAILED, AGAIN = "vtl: volume VOL00001 could not be written: ", "vtl: volume VOL00001 is written again\n"
+CHANGED = "something else has changed the file, or taken its place"
 
 
 def is_ended(server: Server, sas: int) -> None:
@@ -87,7 +88,7 @@ def never_synced(tried: Tried) -> None:
         host.asks(DRIVE, TO_THE_END)
         same("what is reported", server.reported_lines(), [])
         host.is_ended_by(DRIVE, FILEMARK)
-        server.reported.wait_for(f"{FAILED}disk error\n")
+        server.reported.wait_for(f"{FAILED}Input/output error (os error 5)\n")
         # It is tried again without a command too, and reported once.
         is_ended(server, B)
         time.sleep(1.2)
@@ -210,7 +211,7 @@ def spoilt(tried: Tried, spoil: typing.Callable[[pathlib.Path], None]) -> typing
 def shortened(tried: Tried) -> None:
     """It is found where the next block doesn't go on the end. The file is cut back once more in vain, then a new one is written."""
     with spoilt(tried, lambda path: os.truncate(path, 3)) as (server, host):
-        server.reported.wait_for(f"{FAILED}disk error\n")
+        server.reported.wait_for(f"{FAILED}{CHANGED}\n")
         server.reported.wait_for(AGAIN)
         host.asks(DRIVE, FILEMARK)
 
@@ -219,7 +220,7 @@ def removed(tried: Tried) -> None:
     """It is found where the file is brought to the disk."""
     with spoilt(tried, pathlib.Path.unlink) as (server, host):
         host.is_ended_by(DRIVE, FILEMARK)
-        server.reported.wait_for(f"{FAILED}disk error\n")
+        server.reported.wait_for(f"{FAILED}{CHANGED}\n")
 
 
 ROWS = [

@@ -33,7 +33,7 @@ impl From<AllocError> for Unwritable {
 }
 
 /// Why the file at a path couldn't be written.
-fn unwritable(alloc: Global, path: &str, error: io::Error) -> Unwritable {
+fn cannot_write(alloc: Global, path: &str, error: io::Error) -> Unwritable {
     match (error.kind(), String::from_str(alloc, path)) {
         (ErrorKind::OutOfMemory, _) | (_, Err(_)) => Unwritable::NoMemory,
         (_, Ok(path)) => Unwritable::At(path, error),
@@ -82,13 +82,13 @@ fn begin<'a, R: AllocGlobal + Files<File = File>, E: Write>(
     let alloc = around.alloc;
     let new = store.new_paths(alloc)?;
     if let Err(error) = remove_if_there(rt, new.opened.as_str()) {
-        return Err(unwritable(alloc, new.given.as_str(), error));
+        return Err(cannot_write(alloc, new.given.as_str(), error));
     }
     move_tail(rt, store, trust.length, around, errors)?;
     let record = store.record_paths(alloc)?;
     match begin_record(rt, store, record.opened.as_str(), trust, around) {
         Ok(()) => Ok(()),
-        Err(error) => Err(unwritable(alloc, record.given.as_str(), error)),
+        Err(error) => Err(cannot_write(alloc, record.given.as_str(), error)),
     }
 }
 
@@ -103,14 +103,14 @@ fn move_tail<'a, R: AllocGlobal + Files<File = File>, E: Write>(
     let path = store.paths().given.as_str();
     let length = match store.file().metadata() {
         Ok(metadata) => metadata.len(),
-        Err(error) => return Err(unwritable(around.alloc, path, error)),
+        Err(error) => return Err(cannot_write(around.alloc, path, error)),
     };
     if length <= size {
         return Ok(());
     }
     let tail = copy_tail(rt, store, size, around)?;
     if let Err(error) = cut(store.file(), size) {
-        return Err(unwritable(around.alloc, path, error));
+        return Err(cannot_write(around.alloc, path, error));
     }
     let notice = Notice::TailMoved {
         path,
@@ -145,7 +145,7 @@ fn copy_tail<'a, R: AllocGlobal + Files<File = File>>(
         Err(error) => {
             // What is left of it takes room, and says nothing that the image doesn't.
             let _ = remove_if_there(rt, tail.opened.as_str());
-            Err(unwritable(around.alloc, tail.given.as_str(), error))
+            Err(cannot_write(around.alloc, tail.given.as_str(), error))
         }
     }
 }
@@ -162,11 +162,11 @@ fn make_tail<'a, R: AllocGlobal + Files<File = File>>(
         match make_new(rt, tail.opened.as_str()) {
             Ok(file) => return Ok((file, tail)),
             Err(error) if error.kind() == ErrorKind::AlreadyExists => {}
-            Err(error) => return Err(unwritable(alloc, tail.given.as_str(), error)),
+            Err(error) => return Err(cannot_write(alloc, tail.given.as_str(), error)),
         }
     }
     let error = io::Error::new(ErrorKind::AlreadyExists, "it has too many tails");
-    Err(unwritable(alloc, store.paths().given.as_str(), error))
+    Err(cannot_write(alloc, store.paths().given.as_str(), error))
 }
 
 /// Copies a file from an offset on into another one, and brings that to the disk.

@@ -252,7 +252,7 @@ pub(crate) fn keep_volumes<'a, R: AllocGlobal + Files<File = File>, E: Write>(
     placed: &[PlacedVolume],
     errors: &mut E,
 ) -> Result<Vec<KeptVolume<'a, R>>, FolderFault>
-    ensures { AreRead folder.entry.given.now found.entry.volumes.items → IfOk result (λ kept. AreVolumesOf folder.now kept.items) }
+    ensures { AreRead folder.now found.entry.volumes.items → IfOk result (λ kept. AreVolumesOf folder.now kept.items) }
 {
     let FoundVolumes { volumes, boot, .. } = found;
     let around = Surroundings {

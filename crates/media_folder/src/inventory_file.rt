@@ -63,6 +63,18 @@ pub(crate) fn kept_inventory<R: AllocGlobal + Files>(
     }
 }
 
+/// Whether a folder has an inventory, also one that can't be looked at.
+pub(crate) fn has_inventory<R: AllocGlobal + Files>(
+    rt: &R,
+    folder: FolderPaths<'_>,
+) -> Result<bool, AllocError> {
+    let path = folder.file(rt.alloc(), NAME)?;
+    match fs::metadata(rt, path.opened.as_str()) {
+        Ok(_) => Ok(true),
+        Err(error) => Ok(error.kind() != ErrorKind::NotFound),
+    }
+}
+
 /// Whether a folder has an inventory that users other than its owner may read or write.
 pub(crate) fn is_inventory_open<R: AllocGlobal + Files>(
     rt: &R,

@@ -255,7 +255,7 @@ pub fn read_inventory(alloc: Global, text: &[u8]) -> Result<KeptLibrary, ReadFau
         return Err(ReadFault::UnknownVersion(version));
     }
     let profile = library_profile_of(&table)?;
-    look_at_keys(alloc, text, &table, profile.profile())?;
+    look_at_keys(alloc, text, &table)?;
     let mut inventory = Inventory::new(alloc, profile, size_of(&table)?);
     add_volumes(&mut inventory, volumes_at(&table, InventoryKey::Volume)?)?;
     add_missing(&mut inventory, volumes_at(&table, InventoryKey::Missing)?)?;

@@ -1,7 +1,6 @@
 //! Which keys the text of an inventory may have, at the top, in a volume and in its source.
 use crate::inventory_text::{SOURCE, key_text};
 use crate::text_fault::{InventoryKey, ReadFault};
-use scsi_cdb::Profile;
 use std::alloc::Global;
 use toml::{Table, Value};
 use toml_lines::first_line_with;
@@ -23,31 +22,26 @@ const KEYS: [InventoryKey; 10] = [
 /// The keys of an element, of which a volume and a source have one.
 const ELEMENT_KEYS: [&str; 3] = ["data_transfer", "storage", "import_export"];
 
-/// Looks whether each key is one that it may have in the text of a library of a profile: the first that isn't is told, with its line.
-pub(crate) fn look_at_keys(
-    alloc: Global,
-    text: &[u8],
-    table: &Table,
-    profile: Profile,
-) -> Result<(), ReadFault> {
-    let Some(key) = unknown_key(table, profile) else {
+/// Looks whether each key is one that it may have in the text of an inventory: the first that isn't is told, with its line.
+pub(crate) fn look_at_keys(alloc: Global, text: &[u8], table: &Table) -> Result<(), ReadFault> {
+    let Some(key) = unknown_key(table) else {
         return Ok(());
     };
     let key = String::from_str(alloc, key.as_str())?;
     let line = first_line_with(alloc, text, |table: &Table| {
-        unknown_key(table, profile).is_some()
+        unknown_key(table).is_some()
     })?;
     Err(ReadFault::UnknownKey { line, key })
 }
 
 /// A key that is none of an inventory's text, of a volume or of a source.
-fn unknown_key(table: &Table, profile: Profile) -> Option<&String> {
+fn unknown_key(table: &Table) -> Option<&String> {
     let top = table.keys().find(|key| !is_key(key.as_str()));
     match top {
         Some(key) => Some(key),
-        None => match unknown_in_volumes(table, InventoryKey::Volume, profile) {
+        None => match unknown_in_volumes(table, InventoryKey::Volume) {
             Some(key) => Some(key),
-            None => unknown_in_volumes(table, InventoryKey::Missing, profile),
+            None => unknown_in_volumes(table, InventoryKey::Missing),
         },
     }
 }
@@ -61,24 +55,21 @@ fn is_element_key(name: &str) -> bool {
 }
 
 /// The same of the volumes under a key.
-fn unknown_in_volumes(table: &Table, key: InventoryKey, profile: Profile) -> Option<&String> {
+fn unknown_in_volumes(table: &Table, key: InventoryKey) -> Option<&String> {
     let Some(Value::Array(volumes)) = table.get(key_text(key)) else {
         return None;
     };
     for volume in volumes {
-        if let Some(key) = unknown_in_volume(volume, profile) {
+        if let Some(key) = unknown_in_volume(volume) {
             return Some(key);
         }
     }
     None
 }
 
-fn unknown_in_volume(volume: &Value, profile: Profile) -> Option<&String> {
+fn unknown_in_volume(volume: &Value) -> Option<&String> {
     let volume = volume.as_table()?;
-    match volume
-        .keys()
-        .find(|key| !is_volume_key(key.as_str(), profile))
-    {
+    match volume.keys().find(|key| !is_volume_key(key.as_str())) {
         Some(key) => Some(key),
         None => {
             let source = volume.get(SOURCE)?.as_table()?;
@@ -87,11 +78,7 @@ fn unknown_in_volume(volume: &Value, profile: Profile) -> Option<&String> {
     }
 }
 
-/// Whether a volume may have a key. In the default profile no volume has a source.
-fn is_volume_key(name: &str, profile: Profile) -> bool {
-    let has_source = match profile {
-        Profile::Spec => false,
-        Profile::Hosts => true,
-    };
-    name == "tag" || is_element_key(name) || (has_source && name == SOURCE)
+/// Whether a volume may have a key. A source means nothing in a library of the default profile, and is passed over there.
+fn is_volume_key(name: &str) -> bool {
+    name == "tag" || name == SOURCE || is_element_key(name)
 }

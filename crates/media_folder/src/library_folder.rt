@@ -3,6 +3,7 @@ ghost use Rattle.std.specs.Prelude.{◌≡◌, string_bytes, IfOk};
 
 use crate::fault::FolderFault;
 use crate::identity::FileIdentity;
+use crate::inventory_file::has_inventory;
 use crate::names::{FolderPaths, path_in};
 use crate::rights::{NEW_FILE, NEW_FOLDER, is_open_to_others};
 use program_options::WithoutLibrary;
@@ -146,6 +147,14 @@ pub fn lock_folder<R: AllocGlobal + Files<File = File>>(
     take_lock(alloc, &folder, path, path)?;
     let identity = FileIdentity::of(&metadata);
     let opened = opened_path(rt, path, &folder, identity)?;
+    look_for_library(
+        rt,
+        FolderPaths {
+            given: path,
+            opened: opened.as_str(),
+        },
+        without,
+    )?;
     let lock = lock_file(rt, path, opened.as_str())?;
     Ok(LibraryFolder {
         path: String::from_str(alloc, path)?,
@@ -208,6 +217,18 @@ fn take_lock(alloc: Global, file: &File, path: &str, folder: &str) -> Result<(),
             Err(FolderFault::CannotLock(String::from_str(alloc, path)?, error))
         }
     }
+}
+
+/// Refuses a folder that has no library where none is to be made. Nothing is left there.
+fn look_for_library<R: AllocGlobal + Files>(
+    rt: &R,
+    folder: FolderPaths<'_>,
+    without: WithoutLibrary,
+) -> Result<(), FolderFault> {
+    if without == WithoutLibrary::Make || has_inventory(rt, folder)? {
+        return Ok(());
+    }
+    Err(FolderFault::NoLibrary(String::from_str(rt.alloc(), folder.given)?))
 }
 
 /// The file of a folder whose lock other machines see, which is made if it isn't there. It stays there, so that no two programs have locks

@@ -9,7 +9,7 @@ use crate::record::{RecordFile, RecordOf};
 use crate::small_file::make_anew;
 use std::alloc::{AllocError, Global};
 use std::fs::{self, File, Files, OpenFile};
-use std::io::{self, Seek, SeekFrom, Write};
+use std::io::{self, ErrorKind, Seek, SeekFrom, Write};
 use std::marker::Model;
 use tape_flush::{ImageStore, StoreFault};
 
@@ -170,11 +170,11 @@ impl<'a, R: Files<File = File>> FileStore<'a, R> {
 
     /// Looks whether the path that was given leads to the file.
     fn check_path(&self) -> Result<(), StoreFault> {
-        let found = fs::metadata(self.files, self.paths.given.as_str())?;
-        if FileIdentity::of(&found) == self.identity {
-            Ok(())
-        } else {
-            Err(StoreFault::Changed)
+        match fs::metadata(self.files, self.paths.given.as_str()) {
+            Ok(found) if FileIdentity::of(&found) == self.identity => Ok(()),
+            Ok(_) => Err(StoreFault::Changed),
+            Err(error) if error.kind() == ErrorKind::NotFound => Err(StoreFault::Changed),
+            Err(error) => Err(StoreFault::from(error)),
         }
     }
 

@@ -15,7 +15,7 @@ volumes-preserved-in-Continue-branch-3 g c = λ h.
     taken (λ (read : ReadVolume g.row.R.Denot g.row.R-Dir.Denot). IsVolumeOf c.args.folder.now read.volume read.store)
     c.args.found.volumes.items c.volumes.yielded c.in-Some.read turn.0 turn.1 h in
     let kept : IsVolumeOf c.args.folder.now c.in_ok-volume.volume.volume c.in_ok-volume.volume.image.store =
-    rw (c.in_ok-volume.ensures.volume, c.in_ok-volume.ensures.store) read in
+    record { named = rw (c.in_ok-volume.ensures.tag, c.in_ok-volume.ensures.path) read.named; protected = c.in_ok-volume.ensures.protected } in
     let more : c.push.new.self.items ≡ c.volumes.kept.items ++ c.in_ok-volume.volume ∷ [] = search rules in
     added (λ (kept : KeptVolume g.row.R.Denot g.row.R-Dir.Denot). IsVolumeOf c.args.folder.now kept.volume kept.image.store)
     c.volumes.kept.items c.push.new.self.items c.in_ok-volume.volume more (c.volumes.invariant h) kept
