@@ -109,7 +109,7 @@ CONFLICTS = under(
 
 
 # For half a million filemarks, or the first block, there is no room in the memory that all volumes may take together.
-NO_ROOM = ["--memory", "1M"]
+NO_ROOM = ["--memory", "1M", "--volumes-larger-than-memory"]
 MANY_FILEMARKS = scsi.write_filemarks(1 << 19)
 BUSY_UNITS = under(
     "what is missing or over is told with each status",

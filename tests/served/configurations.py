@@ -34,6 +34,7 @@ profile = "hosts"
 library-id = "1a2b3c4d"
 new-library = true
 memory = "64M"
+volumes-larger-than-memory = true
 metrics = "127.0.0.1:9100"
 metrics-open = false
 workers = 5

@@ -2,10 +2,12 @@
 import typing
 
 import scsi
+from compare import same
 from exchanges import LOGIN_OF_A, LOGIN_OF_B, IsLeft, Says, Step, meet, move, position, ready, reserve_out
 from frames import ACCEPTED, BUSY, LOGGED_OUT, LOGOUT, command, conflict, good, power_on
 from host import Host, standing_at
 from play import Row, Tried
+from program import run
 from scsi import LONGEST_BLOCK
 from server import Server
 
@@ -13,6 +15,8 @@ from server import Server
 ROOM, LISTS = 1 << 20, 1024
 # What a larger volume takes for its blocks at once.
 PIECE = 8 << 20
+# The volumes may hold more than memory.
+LARGER = "--volumes-larger-than-memory"
 # The answer BUSY, without a number.
 IS_BUSY = 0x08, b"", b""
 GOOD_KEYS = bytes(8)
@@ -122,11 +126,11 @@ class Memories(typing.NamedTuple):
 MEMORIES = {
     "shared-memory": Memories(
         "tapes that share a limit take no more",
-        f"--sessions 1 --memory {2 * ROOM + LISTS} --volume-size 1M --drives 3 --volumes 3", 1, SHARED, None),
+        f"--sessions 1 --memory {2 * ROOM + LISTS} {LARGER} --volume-size 1M --drives 3 --volumes 3", 1, SHARED, None),
     "memory-of-filemarks": Memories("lists of filemarks count", "--sessions 1 --memory 1M --volume-size 1M", 1, MARKS, None),
     "conflict-before-memory": Memories(
         "a command is BUSY for want of memory, with no record, and a reservation conflict comes before that",
-        f"--sessions 2 --memory {ROOM + LISTS} --volume-size 1M --drives 2 --volumes 2", 2, CONFLICT, LINES_OF_THE_CONFLICT),
+        f"--sessions 2 --memory {ROOM + LISTS} {LARGER} --volume-size 1M --drives 2 --volumes 2", 2, CONFLICT, LINES_OF_THE_CONFLICT),
 }
 
 
@@ -140,7 +144,8 @@ def row(name: str, of: Memories) -> Row:
 def given_back(tried: Tried) -> None:
     """Volumes of 16 MiB take room by pieces of 8 MiB. The second has two, and an ERASE from its beginning on gives back all but the first;
     a third volume has room then."""
-    with Server(tried, "--sessions", "1", "--memory", str(3 * PIECE + (1 << 16)), "--drives", "3", "--volumes", "3") as server:
+    words = ["--memory", str(3 * PIECE + (1 << 16)), LARGER, "--drives", "3", "--volumes", "3"]
+    with Server(tried, "--sessions", "1", *words) as server:
         host = Host(server)
         host.meets(0)
         for at in range(3):
@@ -155,7 +160,23 @@ def given_back(tried: Tried) -> None:
         host.asks(3, scsi.READ_POSITION, standing_at(1))
 
 
+def kept_larger(tried: Tried) -> None:
+    """Of a library that is kept both are reported by a start and by --check, and it is served."""
+    words = ["--media", tried.path("media"), "--volumes", "2", "--volume-size", "64M", "--memory", "127M"]
+    reported = "vtl: the volumes may hold 134217728 bytes of blocks together, and --memory is 133169152 bytes: writes end in BUSY once it is used up"
+    with Server(tried, *words, "--new-library") as server:
+        same("what is reported", server.reported_lines(), [reported])
+        Host(server).loads()
+        server.end()
+        server.ends()
+    checked = run([tried.program, "serve", "--check", "--socket", tried.path("socket"), *words])
+    same("the status, and what is reported by --check", (checked[0], checked[2]), (0, f"{reported}\n"))
+    with Server(tried, *words[:-1], "128M") as server:
+        same("what is reported where all has room", server.reported_lines(), [])
+
+
 ROWS = [
     *(row(*each) for each in MEMORIES.items()),
     Row("memory-given-back", "what a tape took is given back with what is erased", given_back),
+    Row("memory-kept-larger", "a kept library whose volumes may hold more than --memory is served, and both sizes are reported", kept_larger),
 ]

@@ -170,13 +170,16 @@ class Memory(typing.NamedTuple):
     writes: int
 
 
+# A volume of 16 MiB may be larger than memory.
+LARGER_THAN_MEMORY = "--volumes-larger-than-memory"
 # Room for blocks is taken by 8 MiB, 128 such writes, or by the size of a volume that takes fewer; and the list of blocks takes some more.
 MEMORY = {
     "line-no-memory": Memory("as much memory as there is, where nothing is said", "", 2, 2),
-    "line-memory-1m": Memory("in a mebibyte of memory nothing can be written", "--memory 1M", 2, 0),
-    "line-memory-k": Memory("the same in kibibytes", "--memory=1024k", 2, 0),
-    "line-memory-bytes": Memory("eight mebibytes, in bytes, are taken by the room for blocks alone", "--memory 8388608", 2, 0),
-    "line-memory-9m": Memory("room of eight mebibytes is in nine", "--memory=9m", 130, 128),
+    "line-memory-1m": Memory("in a mebibyte of memory nothing can be written", f"--memory 1M {LARGER_THAN_MEMORY}", 2, 0),
+    "line-memory-k": Memory("the same in kibibytes", f"--memory=1024k {LARGER_THAN_MEMORY}", 2, 0),
+    "line-memory-bytes": Memory(
+        "eight mebibytes, in bytes, are taken by the room for blocks alone", f"--memory 8388608 {LARGER_THAN_MEMORY}", 2, 0),
+    "line-memory-9m": Memory("room of eight mebibytes is in nine", f"--memory=9m {LARGER_THAN_MEMORY}", 130, 128),
     "line-memory-3g": Memory("gibibytes of memory", "--memory=3g", 2, 2),
     "line-memory-most": Memory("the most memory, of a library that is kept", "--media {} --new-library --memory 70368744177664", 2, 2),
 }

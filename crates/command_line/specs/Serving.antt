@@ -1,5 +1,5 @@
 -- How a library is served by what is given, and by the defaults of what isn't (profile).
-use Rattle.std.specs.Prelude.{ℕ, ◌≡◌, ◌&&◌, ◌||◌, not, Bool, true, IfSome, IsTrue, List, codes, Option, Some, None, is_some, option_map, unwrap_or, String, string_bytes, if◌then◌else◌}
+use Rattle.std.specs.Prelude.{ℕ, ◌≡◌, ◌*◌, ◌≤◌, ◌&&◌, ◌||◌, not, Bool, true, false, IfSome, IsTrue, List, codes, Option, Some, None, is_some, option_map, unwrap_or, String, string_bytes, if◌then◌else◌}
 use Rattle.std.specs.Duration.{as_nanos}
 use Rattle.std.specs.Global.{Global}
 use Rattle.output_lines.specs.declared.audit_lines.Audit.{Audit}
@@ -57,6 +57,12 @@ media_in (Some folder) media given profile =
 abbrev pub media_of : GivenMedia → GivenLibrary → GivenProfile → Option MediaOptions
 media_of media given profile = media_in media.folder media given profile
 
+-- all that the volumes may hold has room in memory: of a library that is kept that isn't asked for, nor where it is said that it needn't have
+abbrev pub HasRoom : GivenMedia → LibraryOptions → Type 0
+HasRoom media library =
+    media.folder ≡ None → is_on media.volumes_larger_than_memory ≡ false
+    → IfSome media.memory (λ memory. library.volumes * library.volume_size ≤ memory)
+
 -- in JSON, if nothing else is asked for
 abbrev pub record_file_of : (path : Option (String Global)) → Option RecordFormat → Option RecordFileOptions
 record_file_of None format = None
@@ -97,6 +103,7 @@ pub record IsServedBy (given : GivenOptions) (serving : ServeOptions) : Type 0 w
 pub record IsServed (given : GivenOptions) (made : LibraryOptions) (chosen : LibraryProfile) (served : ServeOptions) (printed : Audit) : Type 0 where
   pub library : made ≡ options_of given.library (unwrap_or given.volume_size 16777216)
   pub profile : chosen ≡ served_profile given.profile given.iscsi.target_name
+  pub room : HasRoom given.media made
   pub number : given.media.folder ≡ None → is_fitting given.profile ≡ true
   pub serving : IsServedBy given served
   pub audit : printed ≡ audit_of given.records

@@ -146,7 +146,7 @@ pub(crate) const PROFILE_ALONE: [OptionRow; 1] = [OptionRow {
 }];
 
 /// Where a library is saved, and how much memory it takes.
-pub(crate) const MEDIA: [OptionRow; 4] = [
+pub(crate) const MEDIA: [OptionRow; 5] = [
     OptionRow {
         name: "media",
         value: OptionValue::Text("DIR"),
@@ -174,6 +174,13 @@ pub(crate) const MEDIA: [OptionRow; 4] = [
         presence: Presence::Optional,
         excludes: None,
         help: "How many bytes of memory all volumes together may take, from 1M to 65536G; a write that finds none left ends in BUSY",
+    },
+    OptionRow {
+        name: "volumes-larger-than-memory",
+        value: OptionValue::Switch,
+        presence: Presence::Optional,
+        excludes: None,
+        help: "For tests: the volumes may hold more than --memory together without --media too; writes then end in BUSY",
     },
 ];
 

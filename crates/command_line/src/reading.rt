@@ -258,6 +258,7 @@ fn given_media_of(alloc: Global, command: &ArgMatches) -> Result<GivenMedia, Com
         new_library: switch_of(command, "new-library"),
         wait: said_number32(command, "wait-for-folder"),
         memory,
+        volumes_larger_than_memory: switch_of(command, "volumes-larger-than-memory"),
     })
 }
 

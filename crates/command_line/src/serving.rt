@@ -1,13 +1,13 @@
 //! The task of serving a library, by all that is given.
 
 ghost use Rattle.std.specs.Prelude.{◌≡◌, ◌≤◌, true, All, IfOk, IfSome, None, OnOk, vec_len};
-ghost use Rattle.program_options.specs.Options.{AreGivenInRange};
+ghost use Rattle.program_options.specs.Options.{AreGivenInRange, AreInRange};
 ghost use Rattle.program_options.specs.Portals.{IsGuarded};
 ghost use Rattle.program_options.specs.Profiles.{is_fitting};
 ghost use Rattle.given_options.specs.Ranges.{AreGiven};
 ghost use Rattle.given_options.specs.Switches.{is_on};
 ghost use Rattle.given_options.specs.Rules.{GoTogether};
-ghost use Rattle.command_line.specs.Serving.{IsServedBy, IsTaskOf, TimesOf, audit_of, is_drained, media_of, name_of_target, record_file_of, served_profile, until_of};
+ghost use Rattle.command_line.specs.Serving.{HasRoom, IsServedBy, IsTaskOf, TimesOf, audit_of, is_drained, media_of, name_of_target, record_file_of, served_profile, until_of};
 ghost use Rattle.command_line.specs.Tasks.{IsDoable, IsIscsiOptions, IsMediaOptions, IsServeOptions};
 
 use crate::task::{IscsiOptions, MediaOptions, RecordFileOptions, ServeAim, ServeOptions, Task};
@@ -47,6 +47,7 @@ pub fn serve_task(
         .unwrap_or(LibraryOptions::DEFAULT.volume_size);
     let library = given.library.options(size);
     look_at_volumes(&library, &given.media.folder)?;
+    look_at_memory(alloc, &library, &given.media)?;
     look_at_number(given.profile, &given.media.folder)?;
     let profile = profile_of(given.profile, &given.iscsi.target_name);
     let serving = serve_options_of(alloc, given)?;
@@ -64,6 +65,30 @@ fn look_at_volumes(library: &LibraryOptions, folder: &Option<String>) -> Result<
         Some(_) => Ok(()),
         None => library.fits(),
     }
+}
+
+/// Looks whether all that the volumes may hold has room in memory, unless it needn't have. Of a library that is kept that is reported where
+/// its folder is opened.
+fn look_at_memory(
+    alloc: Global,
+    library: &LibraryOptions,
+    media: &GivenMedia,
+) -> Result<(), CommandLineFault>
+    requires { AreInRange library.now }
+    ensures { OnOk result (HasRoom media.now library.now) }
+{
+    let Some(memory) = media.memory else {
+        return Ok(());
+    };
+    let size = library.size_of_all_volumes();
+    if media.folder.is_some()
+        || media.volumes_larger_than_memory.unwrap_or(false)
+        || size <= memory
+    {
+        return Ok(());
+    }
+    let sizes = format!(in alloc; "{size} bytes of blocks, {memory} bytes of memory")?;
+    Err(CommandLineFault::Word(OptionFault::VolumesLargerThanMemory, sizes))
 }
 
 /// Looks whether a number is given for the hosts' profile alone. Of a library that is kept that is decided where its folder is opened.

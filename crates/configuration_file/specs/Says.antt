@@ -11,7 +11,7 @@ use Rattle.program_options.specs.declared.given_profile.GivenProfile.{GivenProfi
 use Rattle.toml.specs.Data.{Data, Members, no_members, member, get_member}
 use Rattle.given_options.specs.Keys.{key_text}
 use Rattle.given_options.specs.declared.key.ServeKey.{ServeKey}
-use Rattle.given_options.specs.declared.key.ServeKey.TheVariants.{Drives, Slots, Portals, Volumes, VolumeSize, Profile, LibraryId, Media, NewLibrary, WaitForFolder, Memory, Socket, Control, Metrics, MetricsOpen, Sessions, Workers, TargetName, AnyHost, Multipath, Chap, ChapDigests, NoAuthentication, Spans, Drain, KeepRecords, Records, Format, Grace, LoginTimeout, IdleTimeout, WriteTimeout, IdlePing, Log}
+use Rattle.given_options.specs.declared.key.ServeKey.TheVariants.{Drives, Slots, Portals, Volumes, VolumeSize, Profile, LibraryId, Media, NewLibrary, WaitForFolder, Memory, VolumesLargerThanMemory, Socket, Control, Metrics, MetricsOpen, Sessions, Workers, TargetName, AnyHost, Multipath, Chap, ChapDigests, NoAuthentication, Spans, Drain, KeepRecords, Records, Format, Grace, LoginTimeout, IdleTimeout, WriteTimeout, IdlePing, Log}
 use Rattle.given_options.specs.declared.options.GivenIscsi.{GivenIscsi}
 use Rattle.given_options.specs.declared.options.GivenMedia.{GivenMedia}
 use Rattle.given_options.specs.declared.options.GivenMetrics.{GivenMetrics}
@@ -50,6 +50,7 @@ pub record SaysMedia (members : Members) (given : GivenMedia) : Type 0 where
   pub new_library : switch_said (at NewLibrary members) ≡ Some given.new_library
   pub wait : number_said 0 3600 (at WaitForFolder members) ≡ Some given.wait
   pub memory : word_said memory_size_in (at Memory members) ≡ Some given.memory
+  pub larger : switch_said (at VolumesLargerThanMemory members) ≡ Some given.volumes_larger_than_memory
 
 pub record SaysPlace (members : Members) (given : GivenPlace) : Type 0 where
   pub socket : text_said (at Socket members) ≡ Some (option_map string_bytes given.socket)

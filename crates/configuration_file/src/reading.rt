@@ -174,6 +174,7 @@ fn media_in(alloc: Global, table: &Table) -> Result<GivenMedia, KeyFault>
         new_library: switch_at(table, ServeKey::NewLibrary)?,
         wait: number_at(table, ServeKey::WaitForFolder, 0, MOST_WAIT)?,
         memory: memory_size_at(alloc, table)?,
+        volumes_larger_than_memory: switch_at(table, ServeKey::VolumesLargerThanMemory)?,
     })
 }
 

@@ -26,6 +26,7 @@ media = \"/m\"
 new-library = true
 wait-for-folder = 90
 memory = \"4G\"
+volumes-larger-than-memory = true
 socket = \"/s\"
 control = \"/c\"
 metrics = \"127.0.0.1:9100\"
@@ -70,6 +71,7 @@ fn reads_every_option(rt: HostRuntime) -> Result<(), Fail> {
     assert_eq!(rt; given.media.new_library, Some(true));
     assert_eq!(rt; given.media.wait, Some(90));
     assert_eq!(rt; given.media.memory, Some(4_294_967_296));
+    assert_eq!(rt; given.media.volumes_larger_than_memory, Some(true));
     assert!(rt; given.place.control.is_some());
     assert!(rt; given.metrics.address.is_some());
     assert_eq!(rt; given.metrics.is_open, Some(false));

@@ -2,7 +2,7 @@
 use Rattle.std.specs.Prelude.{Bool, is_some}
 use Rattle.given_options.specs.Switches.{is_on}
 use Rattle.given_options.specs.declared.key.ServeKey.{ServeKey}
-use Rattle.given_options.specs.declared.key.ServeKey.TheVariants.{Drives, Slots, Portals, Volumes, VolumeSize, Profile, LibraryId, Media, NewLibrary, WaitForFolder, Memory, Socket, Control, Metrics, MetricsOpen, Sessions, Workers, Iscsi, TargetName, Hosts, AnyHost, Multipath, Chap, ChapDigests, NoAuthentication, Spans, Drain, KeepRecords, Records, Format, Grace, LoginTimeout, IdleTimeout, WriteTimeout, IdlePing, Log}
+use Rattle.given_options.specs.declared.key.ServeKey.TheVariants.{Drives, Slots, Portals, Volumes, VolumeSize, Profile, LibraryId, Media, NewLibrary, WaitForFolder, Memory, VolumesLargerThanMemory, Socket, Control, Metrics, MetricsOpen, Sessions, Workers, Iscsi, TargetName, Hosts, AnyHost, Multipath, Chap, ChapDigests, NoAuthentication, Spans, Drain, KeepRecords, Records, Format, Grace, LoginTimeout, IdleTimeout, WriteTimeout, IdlePing, Log}
 use Rattle.given_options.specs.declared.options.GivenOptions.{GivenOptions}
 
 abbrev pub is_given : ServeKey → GivenOptions → Bool
@@ -17,6 +17,7 @@ is_given Media given = is_some given.media.folder
 is_given NewLibrary given = is_on given.media.new_library
 is_given WaitForFolder given = is_some given.media.wait
 is_given Memory given = is_some given.media.memory
+is_given VolumesLargerThanMemory given = is_on given.media.volumes_larger_than_memory
 is_given Socket given = is_some given.place.socket
 is_given Control given = is_some given.place.control
 is_given Metrics given = is_some given.metrics.address

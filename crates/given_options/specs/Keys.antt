@@ -1,7 +1,7 @@
 -- The names of options of `vtl serve`: on the command line, and as keys of a file of configuration (profile).
 use Rattle.std.specs.Prelude.{ℕ, List, codes}
 use Rattle.given_options.specs.declared.key.ServeKey.{ServeKey}
-use Rattle.given_options.specs.declared.key.ServeKey.TheVariants.{Drives, Slots, Portals, Volumes, VolumeSize, Profile, LibraryId, Media, NewLibrary, WaitForFolder, Memory, Socket, Control, Metrics, MetricsOpen, Sessions, Workers, Iscsi, TargetName, Hosts, AnyHost, Multipath, Chap, ChapDigests, NoAuthentication, Spans, Drain, KeepRecords, Records, Format, Grace, LoginTimeout, IdleTimeout, WriteTimeout, IdlePing, Log}
+use Rattle.given_options.specs.declared.key.ServeKey.TheVariants.{Drives, Slots, Portals, Volumes, VolumeSize, Profile, LibraryId, Media, NewLibrary, WaitForFolder, Memory, VolumesLargerThanMemory, Socket, Control, Metrics, MetricsOpen, Sessions, Workers, Iscsi, TargetName, Hosts, AnyHost, Multipath, Chap, ChapDigests, NoAuthentication, Spans, Drain, KeepRecords, Records, Format, Grace, LoginTimeout, IdleTimeout, WriteTimeout, IdlePing, Log}
 
 -- a key of a file
 abbrev pub key_text : ServeKey → List ℕ
@@ -16,6 +16,7 @@ key_text Media = codes "media"
 key_text NewLibrary = codes "new-library"
 key_text WaitForFolder = codes "wait-for-folder"
 key_text Memory = codes "memory"
+key_text VolumesLargerThanMemory = codes "volumes-larger-than-memory"
 key_text Socket = codes "socket"
 key_text Control = codes "control"
 key_text Metrics = codes "metrics"

@@ -40,7 +40,7 @@ nothing = record {
   library = record { drives = None; slots = None; import_exports = None; volumes = None };
   volume_size = None;
   profile = record { profile = None; library_number = None };
-  media = record { folder = None; new_library = None; wait = None; memory = None };
+  media = record { folder = None; new_library = None; wait = None; memory = None; volumes_larger_than_memory = None };
   place = record { socket = None; control = None; sessions = None; workers = None };
   metrics = record { address = None; is_open = None };
   iscsi = record { portals = None; target_name = None; hosts = None; any_host = None; multipath = None; chap = None; chap_digests = None; no_authentication = None };
@@ -77,7 +77,7 @@ formed = record nothing { record_file = record { path = None; format = Some Text
 
 -- a wait for a folder that isn't given
 abbrev pub waiting : GivenOptions
-waiting = record nothing { media = record { folder = None; new_library = None; wait = Some 30; memory = None } }
+waiting = record nothing { media = record { folder = None; new_library = None; wait = Some 30; memory = None; volumes_larger_than_memory = None } }
 
 -- readers of metrics that are given nowhere
 abbrev pub opened : GivenOptions

@@ -2,7 +2,7 @@
 use Rattle.std.specs.Prelude.{ℕ, ◌≡◌, ◌&&◌, not, Bool, List, [], ◌∷◌, ◌++◌, codes, find, Option, Some, None, Result, Ok, Err}
 use Rattle.given_options.specs.Given.{is_given}
 use Rattle.given_options.specs.Keys.{option_text}
-use Rattle.given_options.specs.declared.key.ServeKey.TheVariants.{Media, NewLibrary, WaitForFolder, Metrics, MetricsOpen, Sessions, Workers, Iscsi, TargetName, Hosts, AnyHost, Multipath, Chap, ChapDigests, NoAuthentication, Spans, Drain, KeepRecords, Records, Format}
+use Rattle.given_options.specs.declared.key.ServeKey.TheVariants.{Media, NewLibrary, WaitForFolder, Memory, VolumesLargerThanMemory, Metrics, MetricsOpen, Sessions, Workers, Iscsi, TargetName, Hosts, AnyHost, Multipath, Chap, ChapDigests, NoAuthentication, Spans, Drain, KeepRecords, Records, Format}
 use Rattle.given_options.specs.declared.options.GivenOptions.{GivenOptions}
 use Rattle.given_options.specs.declared.rule.OptionRule.{OptionRule}
 use Rattle.given_options.specs.declared.rule.OptionRule.TheVariants.{Excludes, Needs}
@@ -13,7 +13,7 @@ abbrev pub option_rules : List OptionRule
 option_rules =
     Excludes Workers Sessions ∷ Excludes Sessions Iscsi ∷ Excludes Drain Spans ∷ Excludes KeepRecords Drain ∷
     Excludes Records Spans ∷ Excludes Records Drain ∷ Excludes Records KeepRecords ∷
-    Excludes NoAuthentication Chap ∷ Needs Format Records ∷ Needs NewLibrary Media ∷ Needs WaitForFolder Media ∷ Needs TargetName Iscsi ∷ Needs Hosts Iscsi ∷ Needs AnyHost Iscsi ∷
+    Excludes NoAuthentication Chap ∷ Needs Format Records ∷ Needs NewLibrary Media ∷ Needs WaitForFolder Media ∷ Needs VolumesLargerThanMemory Memory ∷ Needs TargetName Iscsi ∷ Needs Hosts Iscsi ∷ Needs AnyHost Iscsi ∷
     Needs Multipath Iscsi ∷ Needs Chap Iscsi ∷ Needs ChapDigests Chap ∷ Needs NoAuthentication Iscsi ∷ Needs MetricsOpen Metrics ∷ []
 
 abbrev pub is_broken : GivenOptions → OptionRule → Bool

@@ -32,6 +32,7 @@ winning_media first second = record {
   new_library = option_or first.new_library second.new_library;
   wait = option_or first.wait second.wait;
   memory = option_or first.memory second.memory;
+  volumes_larger_than_memory = option_or first.volumes_larger_than_memory second.volumes_larger_than_memory;
 }
 
 abbrev pub winning_place : (first second : GivenPlace) → GivenPlace

@@ -15,6 +15,7 @@ pub enum ServeKey {
     NewLibrary,
     WaitForFolder,
     Memory,
+    VolumesLargerThanMemory,
     Socket,
     Control,
     Metrics,
@@ -43,7 +44,7 @@ pub enum ServeKey {
 }
 
 /// All of them.
-pub const SERVE_KEYS: [ServeKey; 36] = [
+pub const SERVE_KEYS: [ServeKey; 37] = [
     ServeKey::Drives,
     ServeKey::Slots,
     ServeKey::Portals,
@@ -55,6 +56,7 @@ pub const SERVE_KEYS: [ServeKey; 36] = [
     ServeKey::NewLibrary,
     ServeKey::WaitForFolder,
     ServeKey::Memory,
+    ServeKey::VolumesLargerThanMemory,
     ServeKey::Socket,
     ServeKey::Control,
     ServeKey::Metrics,
@@ -99,6 +101,7 @@ impl ServeKey {
             ServeKey::NewLibrary => "new-library",
             ServeKey::WaitForFolder => "wait-for-folder",
             ServeKey::Memory => "memory",
+            ServeKey::VolumesLargerThanMemory => "volumes-larger-than-memory",
             ServeKey::Socket => "socket",
             ServeKey::Control => "control",
             ServeKey::Metrics => "metrics",

@@ -45,6 +45,8 @@ pub struct GivenMedia {
     pub wait: Option<u32>,
     /// How many bytes of memory its volumes may take together.
     pub memory: Option<u64>,
+    /// Whether they may hold more than that together, also where the library isn't kept.
+    pub volumes_larger_than_memory: Option<bool>,
 }
 
 /// Where hosts connect by frames, where the library's status is asked for, for how long it is served, and to how many.
@@ -147,6 +149,9 @@ impl GivenMedia {
             new_library: self.new_library.or(other.new_library),
             wait: self.wait.or(other.wait),
             memory: self.memory.or(other.memory),
+            volumes_larger_than_memory: self
+                .volumes_larger_than_memory
+                .or(other.volumes_larger_than_memory),
         }
     }
 }
@@ -283,6 +288,7 @@ impl GivenOptions {
             ServeKey::NewLibrary => is_on(self.media.new_library),
             ServeKey::WaitForFolder => self.media.wait.is_some(),
             ServeKey::Memory => self.media.memory.is_some(),
+            ServeKey::VolumesLargerThanMemory => is_on(self.media.volumes_larger_than_memory),
             ServeKey::Socket => self.place.socket.is_some(),
             ServeKey::Control => self.place.control.is_some(),
             ServeKey::Metrics => self.metrics.address.is_some(),

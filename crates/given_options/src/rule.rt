@@ -13,7 +13,7 @@ pub enum OptionRule {
 }
 
 /// The rules. Of several that are broken the first is reported.
-const RULES: [OptionRule; 19] = [
+const RULES: [OptionRule; 20] = [
     OptionRule::Excludes(ServeKey::Workers, ServeKey::Sessions),
     OptionRule::Excludes(ServeKey::Sessions, ServeKey::Iscsi),
     OptionRule::Excludes(ServeKey::Drain, ServeKey::Spans),
@@ -25,6 +25,7 @@ const RULES: [OptionRule; 19] = [
     OptionRule::Needs(ServeKey::Format, ServeKey::Records),
     OptionRule::Needs(ServeKey::NewLibrary, ServeKey::Media),
     OptionRule::Needs(ServeKey::WaitForFolder, ServeKey::Media),
+    OptionRule::Needs(ServeKey::VolumesLargerThanMemory, ServeKey::Memory),
     OptionRule::Needs(ServeKey::TargetName, ServeKey::Iscsi),
     OptionRule::Needs(ServeKey::Hosts, ServeKey::Iscsi),
     OptionRule::Needs(ServeKey::AnyHost, ServeKey::Iscsi),

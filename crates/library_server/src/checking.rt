@@ -7,7 +7,7 @@ ghost use Rattle.library_inventory.specs.Profiles.{as_kept};
 
 use crate::iscsi_target::target_of;
 use crate::served_lines::{ServedPlaces, ServedTerms, write_served};
-use crate::socket::memory_limit;
+use crate::socket::{memory_limit, tell_larger};
 use crate::socket_fault::SocketFault;
 use command_line::{MediaOptions, ServeOptions};
 use library_inventory::{LibrarySize, Start, StartProfile, place};
@@ -19,7 +19,6 @@ use record_file::{FileFault, look_at};
 use std::alloc::{AllocError, Global};
 use std::fs::{File, Files};
 use std::io::Write;
-use tape_medium::MemoryLimit;
 
 /// Reads all that a start reads, and writes to `out` what would be served, or answers the fault that a start would have. All files are
 /// read by a handle that changes none. Whether the folder is another server's, whether files can be written, and whether places are free
@@ -57,8 +56,9 @@ pub fn check_serving<R: AllocGlobal + Files<File = File>, W: Write, E: Write>(
     let size = options.volume_size;
     let library = match media {
         Some(media) => {
-            let limit = memory_limit(rt.alloc(), memory)?;
-            planned_library(&files, media, size, &limit, errors)?
+            let planned = planned_library(&files, media, size, memory, errors)?;
+            tell_larger(planned.volumes.len(), size, memory, errors);
+            planned
         }
         None => planned_in_memory(rt.alloc(), &options, profile)?,
     };
@@ -96,7 +96,7 @@ fn planned_library<R: AllocGlobal + Files<File = File>, E: Write>(
     files: &R,
     media: MediaOptions,
     volume_size: u64,
-    memory: &MemoryLimit,
+    memory: Option<u64>,
     errors: &mut E,
 ) -> Result<PlannedFolder, SocketFault>
     requires some { 0 < volume_size }
@@ -114,7 +114,8 @@ fn planned_library<R: AllocGlobal + Files<File = File>, E: Write>(
         given,
         profile,
     };
-    Ok(plan_folder(files, folder, wanted, volume_size, memory, errors)?)
+    let limit = memory_limit(files.alloc(), memory)?;
+    Ok(plan_folder(files, folder, wanted, volume_size, &limit, errors)?)
 }
 
 /// What would be served of a library that is in no folder.

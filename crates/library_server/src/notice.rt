@@ -5,7 +5,7 @@ ghost use Rattle.library_server.specs.Notices.{at_each, notice_text, plural};
 use std::fmt;
 use std::io::{self, Write};
 
-/// What is told of the places where serving begins.
+/// What is told where serving begins.
 #[derive(Clone, Copy)]
 pub(crate) enum Notice<'a> {
     /// The file at this path was taken away.
@@ -21,6 +21,11 @@ pub(crate) enum Notice<'a> {
         count: usize,
         units: usize,
         workers: u8,
+    },
+    /// The volumes may hold so many bytes of blocks together, and take so many bytes of memory at most.
+    LargerThanMemory {
+        size: u64,
+        memory: u64,
     },
 }
 
@@ -61,6 +66,10 @@ impl<'a> fmt::Display for Notice<'a> {
                     "vtl: serving at {places}: {units} units, {workers} worker{more}{at_each}"
                 )
             }
+            Notice::LargerThanMemory { size, memory } => write!(
+                f,
+                "vtl: the volumes may hold {size} bytes of blocks together, and --memory is {memory} bytes: writes end in BUSY once it is used up"
+            ),
         }
     }
 }

@@ -4,6 +4,7 @@ ghost use Rattle.std.specs.Prelude.{◌<◌, ◌≤◌};
 ghost use Rattle.tape_medium.specs.Limits.{capacity_limit};
 
 use crate::locked_media::LockedMedia;
+use crate::socket::{memory_limit, tell_larger};
 use crate::socket_fault::SocketFault;
 use library_inventory::{Inventory, LibrarySize, PlacedVolume};
 use library_start::{Device, LibraryFault, StartedVolume, library_of_volumes};
@@ -16,7 +17,6 @@ use saved_media::{InventoryStore, MediaKeeper, VolumeImage};
 use std::alloc::{AllocError, Global};
 use std::io::Write;
 use tape_flush::StoreFault;
-use tape_medium::MemoryLimit;
 use target_core::TargetCore;
 
 /// The inventory's file in a folder, with the volumes that are missing, as at the start.
@@ -45,26 +45,28 @@ pub(crate) struct SavedLibrary<'a> {
 }
 
 /// Reads a library from its folder, whose volumes take no more memory together than the limit says, and writes where they are from now
-/// on. What is lost, left or missing there is told on `errors`.
+/// on. What is lost, left or missing there is told on `errors`, and that the volumes may hold more than the limit says.
 pub(crate) fn saved_library<'a, E: Write>(
     alloc: Global,
     files: &'a HostRuntime,
     media: &'a LockedMedia,
     volume_size: u64,
-    memory: &MemoryLimit,
+    memory: Option<u64>,
     errors: &mut E,
 ) -> Result<SavedLibrary<'a>, SocketFault>
     requires some { 0 < volume_size }
     requires within { volume_size ≤ capacity_limit }
 {
     let LockedMedia { folder, wanted } = media;
+    let limit = memory_limit(alloc, memory)?;
     let OpenedFolder {
         profile,
         size,
         volumes,
         missing,
         inventory: write,
-    } = open_folder(files, folder, *wanted, volume_size, memory, errors)?;
+    } = open_folder(files, folder, *wanted, volume_size, &limit, errors)?;
+    tell_larger(volumes.len(), volume_size, memory, errors);
     let inventory = inventory_of(alloc, profile, size, &volumes)?;
     let is_written = begin_inventory(files, folder, &inventory, &missing, write, errors)?;
     let (started, images) = parted(alloc, volumes)?;

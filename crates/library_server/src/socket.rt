@@ -97,11 +97,10 @@ pub fn serve<
         sink: sink.as_ref(),
         telling: telling_of(log),
     };
-    let memory = memory_limit(rt.alloc(), memory)?;
     match &media {
         Some(media) => {
             let size = options.volume_size;
-            let kept = saved_library(rt.alloc(), files, media, size, &memory, errors)?;
+            let kept = saved_library(rt.alloc(), files, media, size, memory, errors)?;
             let SavedLibrary { core, keeper } = kept;
             made.target.profile = core.profile();
             let places = ServedAt {
@@ -113,7 +112,8 @@ pub fn serve<
             serve_at(rt, core, Some(&keeper), places, service, errors)
         }
         None => {
-            let core = library_within(rt.alloc(), &options, profile, &memory)?;
+            let limit = memory_limit(rt.alloc(), memory)?;
+            let core = library_within(rt.alloc(), &options, profile, &limit)?;
             made.target.profile = core.profile();
             let places = ServedAt {
                 socket,
@@ -131,6 +131,20 @@ pub(crate) fn memory_limit(alloc: Global, memory: Option<u64>) -> Result<MemoryL
     match memory {
         Some(most) => MemoryLimit::new(alloc, most),
         None => Ok(MemoryLimit::none()),
+    }
+}
+
+/// Tells that so many volumes of a size may hold more bytes of blocks together than they may take of memory, where that is so.
+pub(crate) fn tell_larger<E: Write>(
+    count: usize,
+    volume_size: u64,
+    memory: Option<u64>,
+    errors: &mut E,
+) {
+    let size = volume_size.saturating_mul(count as u64);
+    match memory {
+        Some(memory) if memory < size => tell(errors, &Notice::LargerThanMemory { size, memory }),
+        Some(_) | None => {}
     }
 }
 

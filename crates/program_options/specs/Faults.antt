@@ -1,10 +1,11 @@
 -- What is said of each fault, and the exit status of a program that ends by it (profile).
 use Rattle.std.specs.Prelude.{ℕ, List, codes}
 use Rattle.program_options.specs.declared.option_fault.OptionFault.{OptionFault}
-use Rattle.program_options.specs.declared.option_fault.OptionFault.TheVariants.{MoreVolumes, BadVolumeSize, BadMemorySize, BadNexus, NoPlace, ManyPortals, BadAddress, OpenAddress, BadToldAddress, NobodyLetIn, BadHost, BadSas, BadName, ManyHosts, NameTwice, SasTwice, NoSlotForOthers, BadDigests, BadFormat, BadProfile, BadLibraryNumber, NumberWithoutHosts, OpenMetrics, UncountedRecords}
+use Rattle.program_options.specs.declared.option_fault.OptionFault.TheVariants.{MoreVolumes, VolumesLargerThanMemory, BadVolumeSize, BadMemorySize, BadNexus, NoPlace, ManyPortals, BadAddress, OpenAddress, BadToldAddress, NobodyLetIn, BadHost, BadSas, BadName, ManyHosts, NameTwice, SasTwice, NoSlotForOthers, BadDigests, BadFormat, BadProfile, BadLibraryNumber, NumberWithoutHosts, OpenMetrics, UncountedRecords}
 
 abbrev pub option_fault_text : OptionFault → List ℕ
 option_fault_text MoreVolumes = codes "vtl: more volumes than slots"
+option_fault_text VolumesLargerThanMemory = codes "vtl: the volumes may hold more together than --memory, and all of them are in memory: give a larger --memory, fewer --volumes or a smaller --volume-size"
 option_fault_text BadVolumeSize = codes "vtl: not a volume size: give a number of bytes from 1M to 64G, such as 16M"
 option_fault_text BadMemorySize = codes "vtl: not a memory size: give a number of bytes from 1M to 65536G, such as 4G"
 option_fault_text BadNexus = codes "vtl: bad nexus"

@@ -45,7 +45,16 @@ impl LibraryOptions {
         volume_size: 68_719_476_736,
     };
 
-    ghost use Rattle.std.specs.Prelude.{◌↔◌, ◌≤◌, IsOk, IsOkUnless};
+    ghost use Rattle.std.specs.Prelude.{◌≡◌, ◌*◌, ◌↔◌, ◌≤◌, IsOk, IsOkUnless};
+    ghost use Rattle.program_options.specs.Options.{AreInRange};
+
+    /// How many bytes of blocks all volumes take together.
+    pub fn size_of_all_volumes(&self) -> u64
+        requires { AreInRange self.now }
+        ensures { result ≡ self.now.volumes * self.now.volume_size }
+    {
+        u64::from(self.volumes) * self.volume_size
+    }
 
     /// Whether each volume has a storage element.
     pub fn fits(&self) -> Result<(), OptionFault>

@@ -6,6 +6,8 @@ use thiserror::Error;
 pub enum OptionFault {
     /// There are more volumes than storage elements.
     MoreVolumes,
+    /// All that the volumes may hold has no room in memory.
+    VolumesLargerThanMemory,
     /// What is no size of a volume, or out of its range.
     BadVolumeSize,
     /// What is no size of memory, or out of its range.
@@ -64,6 +66,9 @@ impl OptionFault {
     {
         match self {
             OptionFault::MoreVolumes => "vtl: more volumes than slots",
+            OptionFault::VolumesLargerThanMemory => {
+                "vtl: the volumes may hold more together than --memory, and all of them are in memory: give a larger --memory, fewer --volumes or a smaller --volume-size"
+            }
             OptionFault::BadVolumeSize => {
                 "vtl: not a volume size: give a number of bytes from 1M to 64G, such as 16M"
             }
