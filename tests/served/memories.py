@@ -17,6 +17,7 @@ ROOM, LISTS = 1 << 20, 1024
 PIECE = 8 << 20
 # The volumes may hold more than memory.
 LARGER = "--volumes-larger-than-memory"
+WANT_OF_MEMORY = "vtl: BUSY for 500000000000000a.1"
 # The answer BUSY, without a number.
 IS_BUSY = 0x08, b"", b""
 GOOD_KEYS = bytes(8)
@@ -144,7 +145,7 @@ def row(name: str, of: Memories) -> Row:
 def given_back(tried: Tried) -> None:
     """Volumes of 16 MiB take room by pieces of 8 MiB. The second has two, and an ERASE from its beginning on gives back all but the first;
     a third volume has room then."""
-    words = ["--memory", str(3 * PIECE + (1 << 16)), LARGER, "--drives", "3", "--volumes", "3"]
+    words = ["--memory", str(3 * PIECE + (1 << 16)), LARGER, "--drives", "3", "--volumes", "3", "--log"]
     with Server(tried, "--sessions", "1", *words) as server:
         host = Host(server)
         host.meets(0)
@@ -153,11 +154,20 @@ def given_back(tried: Tried) -> None:
             host.meets(1 + at)
         host.writes(b"1", lun=1)
         host.writes(*[bytes(LONGEST_BLOCK)] * (PIECE // LONGEST_BLOCK), b"2", lun=2)
-        host.asks(3, scsi.write(1), IS_BUSY, b"3")
+        for _ in range(3):
+            host.asks(3, scsi.write(1), IS_BUSY, b"3")
+            host.asks(3, scsi.READ_POSITION, standing_at(0))
+        same("how often it is reported", server.reported.text.count(WANT_OF_MEMORY), 1)
         host.asks(2, scsi.REWIND)
         host.asks(2, scsi.ERASE)
         host.writes(b"3", lun=3)
         host.asks(3, scsi.READ_POSITION, standing_at(1))
+        # The third has the last piece, so the second finds none for its next.
+        host.writes(*[bytes(LONGEST_BLOCK)] * (PIECE // LONGEST_BLOCK), lun=2)
+        for _ in range(3):
+            host.asks(2, scsi.write(1), IS_BUSY, b"2")
+        wanted = [f"{WANT_OF_MEMORY} at logical unit {lun}: want of memory or of a record number" for lun in (3, 2)]
+        same("what is reported", [line for line in server.reported_lines() if line.startswith(WANT_OF_MEMORY)], wanted)
 
 
 def kept_larger(tried: Tried) -> None:
@@ -177,6 +187,7 @@ def kept_larger(tried: Tried) -> None:
 
 ROWS = [
     *(row(*each) for each in MEMORIES.items()),
-    Row("memory-given-back", "what a tape took is given back with what is erased", given_back),
+    Row("memory-given-back", "what a tape took is given back with what is erased, and BUSY is reported once until a write is carried out",
+        given_back),
     Row("memory-kept-larger", "a kept library whose volumes may hold more than --memory is served, and both sizes are reported", kept_larger),
 ]

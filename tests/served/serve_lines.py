@@ -197,7 +197,7 @@ def memory(of: Memory) -> typing.Callable[[Tried], None]:
             says(host, Says(0, LOGOUT, LOGGED_OUT))
             server.ends()
             busy = "vtl: BUSY for 500000000000000a.1 at logical unit 1: want of memory or of a record number\n"
-            same("how often BUSY is reported", server.reported.text.count(busy), of.tries - of.writes)
+            same("whether BUSY is reported, and once", server.reported.text.count(busy), min(1, of.tries - of.writes))
 
     return play
 

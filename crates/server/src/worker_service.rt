@@ -8,6 +8,7 @@ use crate::teller::Teller;
 use iscsi_session::KeepingService;
 use live_sessions::ResetCounts;
 use logical_unit::{ActKind, Done};
+use scsi_cdb::Class;
 use scsi_nexus::Nexus;
 use scsi_sense::{Status, is_carried_out};
 use session::{SeatService, Service, SessionFault};
@@ -68,6 +69,14 @@ fn record_of(done: &Done<'_>) -> RecordTicket {
     }
 }
 
+/// Whether a command that was carried out wrote blocks or filemarks.
+fn has_written(done: &Done<'_>) -> bool {
+    matches!(
+        done.act(),
+        Some(ActKind::Command(Class::Write)) | Some(ActKind::Command(Class::WriteFilemarks))
+    )
+}
+
 /// What a session does with a reply that waits, for something to be kept or for records to be handed out.
 #[derive(Clone, Copy)]
 pub(crate) enum Replies {
@@ -89,6 +98,8 @@ pub(crate) struct SessionSoFar {
     pub awaited: Option<RecordTicket>,
     /// Whether its last command has left it.
     pub is_full: bool,
+    /// The unit at which a write of its was BUSY for want of memory, and none was carried out since.
+    pub without_memory: Option<u8>,
 }
 
 impl SessionSoFar {
@@ -106,6 +117,7 @@ impl SessionSoFar {
             commands: 0,
             awaited: None,
             is_full: false,
+            without_memory: None,
         }
     }
 }
@@ -138,16 +150,28 @@ impl<'a, S: SeatService, K: TapeKeeper, R: Wait, E: Write> WorkerService<'a, S, 
     ghost use Rattle.std.specs.Prelude.{◌≡◌};
     ghost use Rattle.server.specs.Keeping.{KeepsWhereSaid};
 
-    /// Reports a command that was BUSY, and whether because no slot was free.
+    /// Reports a command that was BUSY, and whether because no slot was free. A host sends what finds no memory again and again: that is
+    /// reported once, until a write is carried out there.
     #[cold]
     #[inline(never)]
-    fn tell_busy(&self, nexus: Nexus, lun: u8) {
-        let event = if self.seat_service.has_room(nexus, lun) {
-            Event::Busy(nexus, lun)
-        } else {
-            Event::NoSlot(nexus, lun)
-        };
-        self.teller.tell(self.rt, &event);
+    fn tell_busy(&mut self, nexus: Nexus, lun: u8)
+        ensures { self.new ≡ self.old }
+    {
+        if !self.seat_service.has_room(nexus, lun) {
+            self.teller.tell(self.rt, &Event::NoSlot(nexus, lun));
+        } else if self.session.without_memory != Some(lun) {
+            self.session.without_memory = Some(lun);
+            self.teller.tell(self.rt, &Event::Busy(nexus, lun));
+        }
+    }
+
+    /// Notes that a command was carried out: if it wrote at the unit that had no memory, there is memory again.
+    fn note_memory(&mut self, done: &Done<'_>)
+        ensures { self.new ≡ self.old }
+    {
+        if self.session.without_memory == Some(done.lun()) && has_written(done) {
+            self.session.without_memory = None;
+        }
     }
 
     /// Begins to keep what a command left, if it was carried out, and with which so many bytes were sent, and gives the ticket that its
@@ -219,6 +243,7 @@ impl<'a, S: SeatService, K: TapeKeeper, R: Wait, E: Write> WorkerService<'a, S, 
             self.tell_busy(nexus, done.lun());
         }
         if is_carried_out(reply.status, reply.sense) {
+            self.note_memory(done);
             self.keep_in_place(done, length);
         }
         let record = record_of(done);
