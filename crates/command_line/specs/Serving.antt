@@ -58,10 +58,8 @@ abbrev pub media_of : GivenMedia → GivenLibrary → GivenProfile → Option Me
 media_of media given profile = media_in media.folder media given profile
 
 -- all that the volumes may hold has room in memory: of a library that is kept that isn't asked for, nor where it is said that it needn't have
-abbrev pub HasRoom : GivenMedia → LibraryOptions → Type 0
-HasRoom media library =
-    media.folder ≡ None → is_on media.volumes_larger_than_memory ≡ false
-    → IfSome media.memory (λ memory. library.volumes * library.volume_size ≤ memory)
+pub record HasRoom (media : GivenMedia) (library : LibraryOptions) : Type 0 where
+  pub fits : media.folder ≡ None → is_on media.volumes_larger_than_memory ≡ false → IfSome media.memory (λ memory. library.volumes * library.volume_size ≤ memory)
 
 -- in JSON, if nothing else is asked for
 abbrev pub record_file_of : (path : Option (String Global)) → Option RecordFormat → Option RecordFileOptions

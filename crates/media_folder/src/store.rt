@@ -180,20 +180,33 @@ impl<'a, R: Files<File = File>> FileStore<'a, R> {
 
     /// Notes how much is on the disk, in its record, or in another one where that isn't there any more.
     fn note_length(&mut self, size: u64) -> Result<(), StoreFault> {
-        let around = match self.around {
-            Some(around) => around,
-            None => return Err(StoreFault::Changed),
-        };
-        if let Some(record) = &self.record {
-            record.write(size)?;
-            let path = self.record_paths(around.alloc)?;
-            if record.is_at(self.files, path.opened.as_str()) {
-                return Ok(());
-            }
+        let around = self.surroundings()?;
+        if self.is_noted(around, size)? {
+            return Ok(());
         }
         around.folder.look(self.files)?;
         self.take_place(around)?;
         self.begin_another(around, size)
+    }
+
+    /// What is known where it is written, if it is.
+    fn surroundings(&self) -> Result<Surroundings<'a>, StoreFault> {
+        match self.around {
+            Some(around) => Ok(around),
+            None => Err(StoreFault::Changed),
+        }
+    }
+
+    /// Notes in its record how much is on the disk. Whether the record is one that a start reads.
+    fn is_noted(&self, around: Surroundings<'a>, size: u64) -> Result<bool, StoreFault> {
+        match &self.record {
+            Some(record) => {
+                record.write(size)?;
+                let path = self.record_paths(around.alloc)?;
+                Ok(record.is_at(self.files, path.opened.as_str()))
+            }
+            None => Ok(false),
+        }
     }
 
     /// A new file takes its place, on the disk too, before its record begins, since the record before it was that of another file; by a
@@ -233,10 +246,7 @@ impl<'a, R: Files<File = File>> FileStore<'a, R> {
 
     /// A new file for the same volume, under a name of its own.
     fn new_file(&self) -> Result<FileStore<'a, R>, StoreFault> {
-        let around = match self.around {
-            Some(around) => around,
-            None => return Err(StoreFault::Changed),
-        };
+        let around = self.surroundings()?;
         around.folder.look(self.files)?;
         let paths = self.paths.try_clone(around.alloc)?;
         let new = self.new_paths(around.alloc)?;

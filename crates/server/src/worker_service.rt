@@ -120,6 +120,13 @@ impl SessionSoFar {
             without_memory: None,
         }
     }
+
+    /// Notes that a command was carried out: if it wrote at the unit that had no memory, there is memory again.
+    fn note_memory(&mut self, done: &Done<'_>) {
+        if self.without_memory == Some(done.lun()) && has_written(done) {
+            self.without_memory = None;
+        }
+    }
 }
 
 /// What a worker serves its sessions by, one after another. It has a library's service, and also asks that records be handed out
@@ -162,15 +169,6 @@ impl<'a, S: SeatService, K: TapeKeeper, R: Wait, E: Write> WorkerService<'a, S, 
         } else if self.session.without_memory != Some(lun) {
             self.session.without_memory = Some(lun);
             self.teller.tell(self.rt, &Event::Busy(nexus, lun));
-        }
-    }
-
-    /// Notes that a command was carried out: if it wrote at the unit that had no memory, there is memory again.
-    fn note_memory(&mut self, done: &Done<'_>)
-        ensures { self.new ≡ self.old }
-    {
-        if self.session.without_memory == Some(done.lun()) && has_written(done) {
-            self.session.without_memory = None;
         }
     }
 
@@ -243,7 +241,7 @@ impl<'a, S: SeatService, K: TapeKeeper, R: Wait, E: Write> WorkerService<'a, S, 
             self.tell_busy(nexus, done.lun());
         }
         if is_carried_out(reply.status, reply.sense) {
-            self.note_memory(done);
+            self.session.note_memory(done);
             self.keep_in_place(done, length);
         }
         let record = record_of(done);
