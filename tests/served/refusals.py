@@ -83,6 +83,18 @@ SECRETS = {
     "short-secret-of-the-target": Secrets(
         "nor is a short one of the target taken", 0o600, "# none\n\niqn.a user a-secret-of-16-b target short",
         ", line 3: a secret has 12 to 128 bytes"),
+    "secret-of-another-host": Secrets(
+        "nor a secret of the target that another line's host has", 0o600,
+        "iqn.2026-11.a:b user a-secret-of-16-b\n# another\niqn.2026-11.a:c user eleven-byte-and-more target a-secret-of-16-b",
+        ", line 3: the target has the secret of the host in line 1: give it another"),
+    "secret-of-the-target-before": Secrets(
+        "nor a host's that the target has by a line before", 0o600,
+        "iqn.2026-11.a:c user eleven-byte-and-more target a-secret-of-16-b\niqn.2026-11.a:b user a-secret-of-16-b",
+        ", line 2: the host has the secret of the target in line 1: give it another"),
+    "secret-of-the-hosts-other-user": Secrets(
+        "nor one that the same host has by another line", 0o600,
+        "iqn.2026-11.a:b user a-secret-of-16-b\niqn.2026-11.a:b both eleven-byte-and-more target a-secret-of-16-b",
+        ", line 2: the target has the secret of the host in line 1: give it another"),
 }
 # What no line reports.
 SECRET = ["short", "a-secret-of-16-b", "the-targets-secret", "eleven-byte"]

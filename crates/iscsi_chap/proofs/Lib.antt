@@ -1,3 +1,4 @@
 pub mod Lines
 pub mod Users
 pub mod Once
+pub mod Apart

@@ -12,7 +12,7 @@ use Rattle.iscsi_chap.specs.declared.fields.CredentialsFields.{CredentialsFields
 use Rattle.iscsi_chap.specs.declared.fields.Fields.{Fields}
 use Rattle.iscsi_chap.specs.declared.words.Word as cut
 use Rattle.iscsi_chap.specs.declared.secrets_fault.LineFault.{LineFault}
-use Rattle.iscsi_chap.specs.declared.secrets_fault.LineFault.TheVariants.{FieldCount, Name, SecretLength, SameSecret, UserTwice}
+use Rattle.iscsi_chap.specs.declared.secrets_fault.LineFault.TheVariants.{FieldCount, Name, SecretLength, SameSecret, UserTwice, SecretOfHost, SecretOfTarget}
 use Rattle.iscsi_chap.specs.declared.secrets_fault.SecretsFault.{SecretsFault}
 use Rattle.iscsi_chap.specs.declared.secrets_fault.SecretsFault.TheVariants.{Line, NoMemory}
 
@@ -31,8 +31,19 @@ credentials_value c = record { user = c.user.items; secret = c.secret.items }
 abbrev pub entry_value : ChapEntry → EntryValue
 entry_value e = record { host = e.host.items; own = credentials_value e.own; target = option_map credentials_value e.target }
 
-abbrev pub entry_values : List ChapEntry → List EntryValue
-entry_values entries = map entry_value entries
+-- an entry, and the line that says it
+pub record NumberedEntry : Type 0 where
+  pub line : ℕ
+  pub said : EntryValue
+
+abbrev pub numbered : (line : ℕ) → EntryValue → NumberedEntry
+numbered line said = record { line = line; said = said }
+
+abbrev pub numbered_entry : ChapEntry → NumberedEntry
+numbered_entry e = numbered e.line (entry_value e)
+
+abbrev pub numbered_entries : List ChapEntry → List NumberedEntry
+numbered_entries entries = map numbered_entry entries
 
 abbrev pub credentials_fields_value : CredentialsFields → CredentialsValue
 credentials_fields_value c = record { user = c.user.now; secret = c.secret.now }
@@ -151,54 +162,80 @@ rest_value (Some rest) = Some rest.now
 abbrev pub is_value_of : EntryValue → (host user : List ℕ) → Bool
 is_value_of e host user = is_same_name e.host host && bytes_eq e.own.user user
 
--- what a line says behind entries: of a host and a user there is one
-abbrev pub behind_entries : (before : List EntryValue) → Result (Option EntryValue) LineFault → Result (Option EntryValue) LineFault
+-- the first line whose entry passes a test
+abbrev pub first_line : (test : EntryValue → Bool) → List NumberedEntry → Option ℕ
+first_line test [] = None
+first_line test (e ∷ others) = if test e.said then Some e.line else first_line test others
+
+-- an entry, unless the target has the secret of a host by a line before, or the host that of the target
+abbrev pub unmirrored : (host target : Option ℕ) → EntryValue → Result (Option EntryValue) LineFault
+unmirrored (Some line) _ entry = Err (SecretOfHost line)
+unmirrored None (Some line) entry = Err (SecretOfTarget line)
+unmirrored None None entry = Ok (Some entry)
+
+-- a host that has the target's secret could answer its challenge by what the target answers to another (RFC 7143, "CHAP Considerations")
+abbrev pub mirrored : (before : List NumberedEntry) → EntryValue → Result (Option EntryValue) LineFault
+mirrored before entry =
+    unmirrored (first_line (λ e. is_shared e.own entry.target) before) (first_line (λ e. is_shared entry.own e.target) before) entry
+
+-- what a line says behind entries: of a host and a user there is one, and no secret is shown both ways
+abbrev pub behind_entries : (before : List NumberedEntry) → Result (Option EntryValue) LineFault → Result (Option EntryValue) LineFault
 behind_entries before (Ok (Some entry)) =
-    if list_any (λ e. is_value_of e entry.host entry.own.user) before then Err UserTwice else Ok (Some entry)
+    if list_any (λ e. is_value_of e.said entry.host entry.own.user) before then Err UserTwice else mirrored before entry
 behind_entries before (Ok None) = Ok None
 behind_entries before (Err fault) = Err fault
 
-abbrev pub line_behind : (before : List EntryValue) → (line : List ℕ) → Result (Option EntryValue) LineFault
+abbrev pub line_behind : (before : List NumberedEntry) → (line : List ℕ) → Result (Option EntryValue) LineFault
 line_behind before line = behind_entries before (line_entry line)
 
 -- with what the lines behind this one say
-abbrev pub by_line : (others : List EntryValue → Result (List EntryValue) (ℕ × LineFault)) → (number : ℕ) → (before : List EntryValue) → Result (Option EntryValue) LineFault → Result (List EntryValue) (ℕ × LineFault)
+abbrev pub by_line : (others : List NumberedEntry → Result (List NumberedEntry) (ℕ × LineFault)) → (number : ℕ) → (before : List NumberedEntry) → Result (Option EntryValue) LineFault → Result (List NumberedEntry) (ℕ × LineFault)
 by_line others number before (Err fault) = Err (number, fault)
 by_line others number before (Ok None) = others before
-by_line others number before (Ok (Some entry)) = others (before ++ entry ∷ [])
+by_line others number before (Ok (Some entry)) = others (before ++ numbered number entry ∷ [])
 
 -- the entries before this text and those of so many lines of it, the first of them of this number, or the first line with a fault
-abbrev pub entries_within : ℕ → (number : ℕ) → (before : List EntryValue) → Option (List ℕ) → Result (List EntryValue) (ℕ × LineFault)
+abbrev pub entries_within : ℕ → (number : ℕ) → (before : List NumberedEntry) → Option (List ℕ) → Result (List NumberedEntry) (ℕ × LineFault)
 entries_within zero number before text = Ok before
 entries_within (suc lines) number before None = Ok before
 entries_within (suc lines) number before (Some text) =
     by_line (λ entries. entries_within lines (number + 1) entries (rest_of text)) number before (line_behind before (line_of text))
 
 -- but for the last line each has a line feed, so there is one line more than bytes at most
-abbrev pub secrets_in : (text : List ℕ) → Result (List EntryValue) (ℕ × LineFault)
+abbrev pub secrets_in : (text : List ℕ) → Result (List NumberedEntry) (ℕ × LineFault)
 secrets_in text = entries_within (length text + 1) 1 [] (Some text)
 
 -- behind none of them stands another of its host and user
-abbrev pub HaveUsersOnce : List EntryValue → Type 0
+abbrev pub HaveUsersOnce : List NumberedEntry → Type 0
 HaveUsersOnce [] = Unit {0}
-HaveUsersOnce (e ∷ others) = (list_any (λ f. is_value_of e f.host f.own.user) others ≡ false) × HaveUsersOnce others
+HaveUsersOnce (e ∷ others) = (list_any (λ f. is_value_of e.said f.said.host f.said.own.user) others ≡ false) × HaveUsersOnce others
+
+-- one shows a secret that the other is asked for
+abbrev pub are_mirrored : (e f : NumberedEntry) → Bool
+are_mirrored e f = is_shared e.said.own f.said.target || is_shared f.said.own e.said.target
+
+-- no secret of the target is a host's, of one line or of two
+abbrev pub HaveSecretsApart : List NumberedEntry → Type 0
+HaveSecretsApart [] = Unit {0}
+HaveSecretsApart (e ∷ others) =
+    (is_shared e.said.own e.said.target ≡ false) × (list_any (λ f. are_mirrored e f) others ≡ false) × HaveSecretsApart others
 
 -- what a line says was added
-abbrev pub TakesLine : (old new : List EntryValue) → Result (Option EntryValue) LineFault → Type 0
-TakesLine old new (Ok None) = new ≡ old
-TakesLine old new (Ok (Some entry)) = new ≡ old ++ entry ∷ []
-TakesLine old new (Err fault) = ⊥
+abbrev pub TakesLine : (number : ℕ) → (old new : List NumberedEntry) → Result (Option EntryValue) LineFault → Type 0
+TakesLine number old new (Ok None) = new ≡ old
+TakesLine number old new (Ok (Some entry)) = new ≡ old ++ numbered number entry ∷ []
+TakesLine number old new (Err fault) = ⊥
 
 -- this line has the fault, unless memory ran out
 abbrev pub FailsAt : (number : ℕ) → SecretsFault → Result (Option EntryValue) LineFault → Type 0
 FailsAt number (Line n what) said = (n ≡ number) × (said ≡ Err what)
 FailsAt number NoMemory said = Unit {0}
 
-abbrev pub IsFault : SecretsFault → Result (List EntryValue) (ℕ × LineFault) → Type 0
+abbrev pub IsFault : SecretsFault → Result (List NumberedEntry) (ℕ × LineFault) → Type 0
 IsFault (Line n what) said = said ≡ Err (n, what)
 IsFault NoMemory said = Unit {0}
 
 -- what was given is what the text says, unless memory ran out
-abbrev pub GivesSecrets : Result ChapSecrets SecretsFault → Result (List EntryValue) (ℕ × LineFault) → Type 0
-GivesSecrets (Ok secrets) said = said ≡ Ok (entry_values secrets.entries.items)
+abbrev pub GivesSecrets : Result ChapSecrets SecretsFault → Result (List NumberedEntry) (ℕ × LineFault) → Type 0
+GivesSecrets (Ok secrets) said = said ≡ Ok (numbered_entries secrets.entries.items)
 GivesSecrets (Err fault) said = IsFault fault said

@@ -1,6 +1,8 @@
 ghost use Rattle.std.specs.Prelude.{◌≡◌};
 ghost use Rattle.std.specs.Option.{option_map};
+ghost use Rattle.iscsi_chap.specs.Secrets.{credentials_value, credentials_fields_value};
 
+use crate::fields::CredentialsFields;
 use iscsi_keys::is_same_name;
 
 /// By which one side shows who it is.
@@ -11,9 +13,23 @@ pub struct Credentials {
     pub secret: Vec<u8>,
 }
 
+impl Credentials {
+    /// The same, where they stand here.
+    pub(crate) fn fields(&self) -> CredentialsFields<'_>
+        ensures { credentials_fields_value result ≡ credentials_value self.now }
+    {
+        CredentialsFields {
+            user: self.user.as_slice(),
+            secret: self.secret.as_slice(),
+        }
+    }
+}
+
 /// What a host and the target show each other.
 #[derive(Drop)]
 pub struct ChapEntry {
+    /// The line of the secrets file, counted from 1.
+    pub line: usize,
     /// The host's iSCSI name.
     pub host: Vec<u8>,
     pub own: Credentials,
@@ -30,17 +46,27 @@ impl ChapEntry {
     {
         is_same_name(self.host.as_slice(), host) && self.own.user.as_slice() == user
     }
+
+    /// What the target shows, where it stands here.
+    pub(crate) fn target_fields(&self) -> Option<CredentialsFields<'_>>
+        ensures { option_map credentials_fields_value result ≡ option_map credentials_value self.now.target }
+    {
+        match &self.target {
+            Some(target) => Some(target.fields()),
+            None => None,
+        }
+    }
 }
 
 /// Who is let in by what secret. It can't be printed.
 #[derive(Drop)]
 pub struct ChapSecrets {
-    /// No two of a file have one host and one user; of two elsewhere the first counts.
+    /// No two of a file have one host and one user, and no target's secret is a host's; of two elsewhere the first counts.
     pub entries: Vec<ChapEntry>,
 }
 
 impl ChapSecrets {
-    ghost use Rattle.iscsi_chap.specs.Entries.{entry_among};
+    ghost use Rattle.iscsi_chap.specs.Entries.{entry_among, secret_for};
 
     /// What the host shows of itself as the user, if it may, and its place among the entries.
     pub fn entry(&self, host: &[u8], user: &[u8]) -> Option<(usize, &ChapEntry)>
@@ -52,5 +78,19 @@ impl ChapSecrets {
             }
         }
         None
+    }
+
+    /// By what a response is judged: the secret of the entry that was found. Where none was, the first entry's, so that the time tells
+    /// nobody which users there are.
+    pub fn secret_for<'a>(&'a self, found: Option<(usize, &'a ChapEntry)>) -> &'a [u8]
+        ensures { result.now ≡ secret_for self.now.entries.items (option_map (λ found. (found.0, found.1.now)) found.entry) }
+    {
+        match found {
+            Some((_, entry)) => entry.own.secret.as_slice(),
+            None => match self.entries.first() {
+                Some(entry) => entry.own.secret.as_slice(),
+                None => &[],
+            },
+        }
     }
 }

@@ -1,6 +1,6 @@
 ghost use Rattle.std.specs.Prelude.{◌≡◌, IfOk};
 ghost use Rattle.std.specs.Option.{option_map};
-ghost use Rattle.iscsi_chap.specs.Secrets.{line_entry, said_value, fields_value, entry_value, credentials_value, credentials_fields_value, is_secret, has_secret, is_shared, checked};
+ghost use Rattle.iscsi_chap.specs.Secrets.{line_entry, said_value, fields_value, numbered, numbered_entry, credentials_value, credentials_fields_value, is_secret, has_secret, is_shared, checked};
 
 use crate::entry::{ChapEntry, Credentials};
 use crate::secrets_fault::LineFault;
@@ -98,7 +98,7 @@ fn has_secret(target: Option<CredentialsFields<'_>>) -> bool
 }
 
 /// Whether the target has the host's secret.
-fn is_shared(own: CredentialsFields<'_>, target: Option<CredentialsFields<'_>>) -> bool
+pub(crate) fn is_shared(own: CredentialsFields<'_>, target: Option<CredentialsFields<'_>>) -> bool
     ensures { result ≡ is_shared (credentials_fields_value own.entry) (option_map credentials_fields_value target.entry) }
 {
     match target {
@@ -107,11 +107,16 @@ fn is_shared(own: CredentialsFields<'_>, target: Option<CredentialsFields<'_>>) 
     }
 }
 
-/// A copy of an entry.
-pub(crate) fn entry_of(alloc: Global, fields: Fields<'_>) -> Result<ChapEntry, AllocError>
-    ensures { IfOk result (λ entry. entry_value entry ≡ fields_value fields.entry) }
+/// A copy of an entry of a line.
+pub(crate) fn entry_of(
+    alloc: Global,
+    line: usize,
+    fields: Fields<'_>,
+) -> Result<ChapEntry, AllocError>
+    ensures { IfOk result (λ entry. numbered_entry entry ≡ numbered line (fields_value fields.entry)) }
 {
     Ok(ChapEntry {
+        line,
         host: Vec::from_slice(alloc, fields.host)?,
         own: credentials_of(alloc, fields.own)?,
         target: match fields.target {

@@ -1,11 +1,11 @@
 ghost use Rattle.std.specs.Prelude.{◌≡◌, ℕ, List, [], ◌∷◌, ◌++◌, Some, None, Ok, Err, codes};
 ghost use Rattle.iscsi_chap.specs.Algorithms.{chosen_algorithm};
 ghost use Rattle.iscsi_chap.specs.Entries.{entry_among};
-ghost use Rattle.iscsi_chap.specs.Secrets.{credentials, line_entry, secrets_in};
+ghost use Rattle.iscsi_chap.specs.Secrets.{credentials, line_entry, numbered, secrets_in};
 ghost use Rattle.iscsi_chap.specs.declared.algorithm.ChapAlgorithm.TheVariants.{Sha256, Md5};
 ghost use Rattle.iscsi_chap.specs.declared.algorithm.ChapDigests.TheVariants as taken;
 ghost use Rattle.iscsi_chap.specs.declared.entry.ChapEntry.{ChapEntry};
-ghost use Rattle.iscsi_chap.specs.declared.secrets_fault.LineFault.TheVariants.{FieldCount, Name, SecretLength, SameSecret, UserTwice};
+ghost use Rattle.iscsi_chap.specs.declared.secrets_fault.LineFault.TheVariants.{FieldCount, Name, SecretLength, SameSecret, UserTwice, SecretOfHost, SecretOfTarget};
 
 /// Worked rows: the algorithm that is taken from a list.
 pub fn algorithm_rows()
@@ -59,9 +59,21 @@ pub fn secrets_rows()
     ensures first_fault { secrets_in (codes "iqn.2026-11.a:b b twelve-bytes" ++ 10 ∷ codes "iqn.2026-11.a:b b twelve-bytes" ++ 10 ∷ codes "iqn.2026-11.a:b") ≡ Err (2, UserTwice) }
     ensures own_fault { secrets_in (codes "iqn.2026-11.a:b b twelve-bytes" ++ 10 ∷ codes "iqn.2026-11.a:b b") ≡ Err (2, FieldCount) }
     ensures user_in_capital_letters { secrets_in (codes "iqn.2026-11.a:b b twelve-bytes" ++ 10 ∷ codes "iqn.2026-11.a:b B twelve-bytes") ≡ Ok (
-        record { host = codes "iqn.2026-11.a:b"; own = credentials (codes "b") (codes "twelve-bytes"); target = None }
-        ∷ record { host = codes "iqn.2026-11.a:b"; own = credentials (codes "B") (codes "twelve-bytes"); target = None } ∷ []) }
+        numbered 1 (record { host = codes "iqn.2026-11.a:b"; own = credentials (codes "b") (codes "twelve-bytes"); target = None })
+        ∷ numbered 2 (record { host = codes "iqn.2026-11.a:b"; own = credentials (codes "B") (codes "twelve-bytes"); target = None }) ∷ []) }
     ensures another_host { secrets_in (codes "iqn.2026-11.a:b b twelve-bytes" ++ 10 ∷ codes "iqn.2026-11.a:c b twelve-bytes") ≡ Ok (
-        record { host = codes "iqn.2026-11.a:b"; own = credentials (codes "b") (codes "twelve-bytes"); target = None }
-        ∷ record { host = codes "iqn.2026-11.a:c"; own = credentials (codes "b") (codes "twelve-bytes"); target = None } ∷ []) }
+        numbered 1 (record { host = codes "iqn.2026-11.a:b"; own = credentials (codes "b") (codes "twelve-bytes"); target = None })
+        ∷ numbered 2 (record { host = codes "iqn.2026-11.a:c"; own = credentials (codes "b") (codes "twelve-bytes"); target = None }) ∷ []) }
+{}
+
+/// Worked rows: no secret of the target is a host's, on whichever of two lines it stands first; targets may share one.
+#[tactic(auto, unfolding(crate::specs::Secrets::line_entry, crate::specs::Secrets::first_word))]
+pub fn mirrored_rows()
+    ensures host_before_target { secrets_in (codes "iqn.2026-11.a:b b twelve-bytes" ++ 10 ∷ codes "iqn.2026-11.a:c c twelve-more- t twelve-bytes") ≡ Err (2, SecretOfHost 1) }
+    ensures target_before_host { secrets_in (codes "iqn.2026-11.a:c c twelve-more- t twelve-bytes" ++ 10 ∷ codes "iqn.2026-11.a:b b twelve-bytes") ≡ Err (2, SecretOfTarget 1) }
+    ensures behind_a_comment { secrets_in (codes "#" ++ 10 ∷ codes "iqn.2026-11.a:b b twelve-bytes" ++ 10 ∷ codes "#" ++ 10 ∷ codes "iqn.2026-11.a:c c twelve-more- t twelve-bytes") ≡ Err (4, SecretOfHost 2) }
+    ensures of_one_host { secrets_in (codes "iqn.2026-11.a:b b twelve-bytes" ++ 10 ∷ codes "iqn.2026-11.a:b c twelve-more- t twelve-bytes") ≡ Err (2, SecretOfHost 1) }
+    ensures one_for_both_hosts { secrets_in (codes "iqn.2026-11.a:b b twelve-bytes t twelve-other" ++ 10 ∷ codes "iqn.2026-11.a:c c twelve-more- t twelve-other") ≡ Ok (
+        numbered 1 (record { host = codes "iqn.2026-11.a:b"; own = credentials (codes "b") (codes "twelve-bytes"); target = Some (credentials (codes "t") (codes "twelve-other")) })
+        ∷ numbered 2 (record { host = codes "iqn.2026-11.a:c"; own = credentials (codes "c") (codes "twelve-more-"); target = Some (credentials (codes "t") (codes "twelve-other")) }) ∷ []) }
 {}

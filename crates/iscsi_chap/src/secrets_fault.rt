@@ -18,6 +18,12 @@ pub enum LineFault {
     /// A line before it has its host, by a name in letters of either case, and its user.
     #[error("the host has a line with this user already")]
     UserTwice,
+    /// The target would show a secret by this line that a host has by a line before it (RFC 7143, "CHAP Considerations").
+    #[error("the target has the secret of the host in line {line}")]
+    SecretOfHost { line: usize },
+    /// The host has a secret by this line that the target would show by a line before it (RFC 7143, "CHAP Considerations").
+    #[error("the host has the secret of the target in line {line}")]
+    SecretOfTarget { line: usize },
 }
 
 /// Why a secrets file isn't taken.

@@ -111,6 +111,7 @@ fn answered(
             Ok(ChapPhase::Challenged(algorithm))
         }),
         (Some(user), Some(response)) => proven(
+            secrets,
             secrets.entry(host, user),
             challenge,
             algorithm,
@@ -122,8 +123,10 @@ fn answered(
     }
 }
 
-/// Judges the response of who is to have the secret of the entry at its place, if there is one.
+/// Judges the response of who is to have the secret of the entry at its place, if there is one. If there is none, the response is judged by
+/// another secret all the same: an unknown user is refused by the work that a wrong response takes.
 fn proven(
+    secrets: &ChapSecrets,
     found: Option<(usize, &ChapEntry)>,
     challenge: Challenge,
     algorithm: ChapAlgorithm,
@@ -135,11 +138,12 @@ fn proven(
     ensures phase { IfOk result (λ verdict. verdict ≡ phase_after (proven algorithm challenge (option_map (λ found. (found.0, found.1.now)) found.entry) response.now text.now)) }
     ensures out { OnOk result (out.new.items ≡ out.old.items ++ answer_in (proven algorithm challenge (option_map (λ found. (found.0, found.1.now)) found.entry) response.now text.now)) }
 {
+    let secret = secrets.secret_for(found);
+    let is_shown = is_response(*out.allocator(), algorithm, challenge, secret, response)?;
     let Some((place, entry)) = found else {
         return Ok(Err(LoginStatus::AuthenticationFailure));
     };
-    let secret = entry.own.secret.as_slice();
-    if !is_response(*out.allocator(), algorithm, challenge, secret, response)? {
+    if !is_shown {
         return Ok(Err(LoginStatus::AuthenticationFailure));
     }
     shown(place, &entry.target, challenge, algorithm, text, out)

@@ -2,7 +2,7 @@
 use Rattle.std.specs.Prelude.{ℕ, List, ◌++◌, codes, string_bytes, Option, Some, None}
 use Rattle.std.specs.Fmt.{decimal}
 use Rattle.iscsi_chap.specs.declared.secrets_fault.LineFault.{LineFault}
-use Rattle.iscsi_chap.specs.declared.secrets_fault.LineFault.TheVariants.{FieldCount, Name, SecretLength, SameSecret, UserTwice}
+use Rattle.iscsi_chap.specs.declared.secrets_fault.LineFault.TheVariants.{FieldCount, Name, SecretLength, SameSecret, UserTwice, SecretOfHost, SecretOfTarget}
 use Rattle.media_folder.specs.Faults.{folder_status}
 use Rattle.program_options.specs.ListenFaults.{listen_status, listen_text}
 use Rattle.record_file.specs.Faults.{file_fault_text}
@@ -27,6 +27,8 @@ line_words Name = codes "NAME is not an iSCSI name: give one such as iqn.2026-11
 line_words SecretLength = codes "a secret has 12 to 128 bytes"
 line_words SameSecret = codes "the target has the host's secret: give it another"
 line_words UserTwice = codes "the host has a line with this user already"
+line_words (SecretOfHost line) = codes "the target has the secret of the host in line " ++ (decimal line ++ codes ": give it another")
+line_words (SecretOfTarget line) = codes "the host has the secret of the target in line " ++ (decimal line ++ codes ": give it another")
 
 -- the second line names the path; no clause says what is told of a folder
 abbrev pub socket_text : SocketFault → Option (List ℕ)

@@ -1,6 +1,3 @@
-ghost use Rattle.std.specs.Prelude.{◌≡◌};
-ghost use Rattle.library_server.specs.Faults.{line_words};
-
 use crate::server_fault::ServerFault;
 use iscsi_chap::LineFault;
 use media_folder::FolderFault;
@@ -72,7 +69,7 @@ impl fmt::Display for SocketFault {
                 "vtl: {path} must be readable by its owner only (chmod 600 {path})"
             ),
             SocketFault::BadSecrets(path, number, what) => {
-                let words = line_words(*what);
+                let words = LineWords(*what);
                 write!(f, "vtl: {path}, line {number}: {words}")
             }
             SocketFault::Folder(fault) => write!(f, "{fault}"),
@@ -86,16 +83,36 @@ impl fmt::Display for SocketFault {
 }
 
 /// What is to be said in place of a line of a file of secrets.
-fn line_words(fault: LineFault) -> &'static str
-    ensures { result.now ≡ line_words fault }
-{
-    match fault {
-        LineFault::FieldCount =>
-            "give NAME USER SECRET, or NAME USER SECRET TARGET-USER TARGET-SECRET",
-        LineFault::Name => "NAME is not an iSCSI name: give one such as iqn.2026-11.example:a",
-        LineFault::SecretLength => "a secret has 12 to 128 bytes",
-        LineFault::SameSecret => "the target has the host's secret: give it another",
-        LineFault::UserTwice => "the host has a line with this user already",
+struct LineWords(LineFault);
+
+impl fmt::Display for LineWords {
+    ghost use Rattle.std.specs.Prelude.{Some};
+    ghost use Rattle.library_server.specs.Faults.{line_words};
+
+    ghost output = { λ words. Some (line_words words.0) };
+
+    fn fmt<W: fmt::Write>(&self, f: &mut fmt::Formatter<W>) -> fmt::Result {
+        match self.0 {
+            LineFault::FieldCount => f.write_str(
+                "give NAME USER SECRET, or NAME USER SECRET TARGET-USER TARGET-SECRET",
+            ),
+            LineFault::Name => {
+                f.write_str("NAME is not an iSCSI name: give one such as iqn.2026-11.example:a")
+            }
+            LineFault::SecretLength => f.write_str("a secret has 12 to 128 bytes"),
+            LineFault::SameSecret => {
+                f.write_str("the target has the host's secret: give it another")
+            }
+            LineFault::UserTwice => f.write_str("the host has a line with this user already"),
+            LineFault::SecretOfHost { line } => write!(
+                f,
+                "the target has the secret of the host in line {line}: give it another"
+            ),
+            LineFault::SecretOfTarget { line } => write!(
+                f,
+                "the host has the secret of the target in line {line}: give it another"
+            ),
+        }
     }
 }
 

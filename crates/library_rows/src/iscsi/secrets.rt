@@ -2,7 +2,7 @@
 use super::assert_same;
 use iscsi_chap::{LineFault, SecretsFault};
 
-const ROWS: [(LineFault, &'static str); 3] = [
+const ROWS: [(LineFault, &'static str); 5] = [
     (
         LineFault::FieldCount,
         "line 3: expected NAME USER SECRET, or NAME USER SECRET TARGET-USER TARGET-SECRET",
@@ -14,6 +14,14 @@ const ROWS: [(LineFault, &'static str); 3] = [
     (
         LineFault::UserTwice,
         "line 3: the host has a line with this user already",
+    ),
+    (
+        LineFault::SecretOfHost { line: 1 },
+        "line 3: the target has the secret of the host in line 1",
+    ),
+    (
+        LineFault::SecretOfTarget { line: 2 },
+        "line 3: the host has the secret of the target in line 2",
     ),
 ];
 
