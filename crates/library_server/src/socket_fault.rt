@@ -29,6 +29,7 @@ pub enum SocketFault {
 }
 
 impl SocketFault {
+    ghost use Rattle.std.specs.Prelude.{◌≡◌};
     ghost use Rattle.library_server.specs.Faults.{socket_status};
 
     /// Why the file of secrets wasn't read.
