@@ -29,6 +29,8 @@ serve() {
 # itself, at once. Signals that ask for nothing here, and would end it without a save, are ignored.
 run() {
     trap '' USR1 USR2 ALRM
+    # Each volume and each connection takes descriptors.
+    ulimit -S -n "$(ulimit -H -n)" 2>/dev/null || :
     case "${1-} $*" in
         *" --sessions"*) ;;
         "serve "*) serve "$@" ;;

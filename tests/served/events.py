@@ -175,6 +175,8 @@ def no_memory(tried: Tried) -> None:
         server.end()
         server.ends()
     pathlib.Path(folder, FIRST).write_bytes(block(bytes(LONGEST_BLOCK)) * 32)
+    # Without a record all of the image is read.
+    pathlib.Path(folder, FIRST).with_suffix(".synced").unlink()
     got = refused(tried, "--socket", tried.path("socket"), "--media", folder, "--memory", "1M")
     same("the status and what is reported", got, (3, "vtl: want of memory\n"))
 
