@@ -84,6 +84,7 @@ impl fmt::Display for SocketFault {
 }
 
 /// What is to be said in place of a line of a file of secrets.
+#[derive(Drop)]
 struct LineWords(LineFault);
 
 impl fmt::Display for LineWords {
