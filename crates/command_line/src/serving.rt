@@ -197,16 +197,23 @@ fn media_options_of(
     ensures media { IfSome result IsMediaOptions }
     ensures value { result ≡ media_of media given profile }
 {
-    let without = if media.new_library.unwrap_or(false) {
+    let GivenMedia {
+        folder,
+        new_library,
+        wait,
+        memory: _,
+        volumes_larger_than_memory: _,
+    } = media;
+    let without = if new_library.unwrap_or(false) {
         WithoutLibrary::Make
     } else {
         WithoutLibrary::Refuse
     };
-    match media.folder {
+    match folder {
         Some(folder) => Some(MediaOptions {
             folder,
             without,
-            wait: media.wait.unwrap_or(0),
+            wait: wait.unwrap_or(0),
             given,
             profile,
         }),
