@@ -157,6 +157,7 @@ def given_back(tried: Tried) -> None:
         for _ in range(3):
             host.asks(3, scsi.write(1), IS_BUSY, b"3")
             host.asks(3, scsi.READ_POSITION, standing_at(0))
+        server.reported.wait_for(WANT_OF_MEMORY)
         same("how often it is reported", server.reported.text.count(WANT_OF_MEMORY), 1)
         host.asks(2, scsi.REWIND)
         host.asks(2, scsi.ERASE)
@@ -167,6 +168,7 @@ def given_back(tried: Tried) -> None:
         for _ in range(3):
             host.asks(2, scsi.write(1), IS_BUSY, b"2")
         wanted = [f"{WANT_OF_MEMORY} at logical unit {lun}: want of memory or of a record number" for lun in (3, 2)]
+        server.reported.wait_for(f"{wanted[-1]}\n")
         same("what is reported", [line for line in server.reported_lines() if line.startswith(WANT_OF_MEMORY)], wanted)
 
 
