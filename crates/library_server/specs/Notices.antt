@@ -2,7 +2,7 @@
 use Rattle.std.specs.Prelude.{ℕ, ◌==◌, List, ◌++◌, codes, if◌then◌else◌}
 use Rattle.std.specs.Fmt.{decimal}
 use Rattle.library_server.specs.declared.notice.Notice.{Notice}
-use Rattle.library_server.specs.declared.notice.Notice.TheVariants.{TookAway, Waiting, Serving, LargerThanMemory}
+use Rattle.library_server.specs.declared.notice.Notice.TheVariants.{TookAway, Serving, LargerThanMemory}
 
 abbrev pub plural : ℕ → List ℕ
 plural count = if count == 1 then codes "" else codes "s"
@@ -12,8 +12,6 @@ at_each count = if count == 1 then codes "" else codes " at each"
 
 abbrev pub notice_text : Notice → List ℕ
 notice_text (TookAway path) = codes "vtl: removed " ++ (path.now ++ codes ": nobody listened there")
-notice_text (Waiting folder wait) =
-    codes "vtl: another program has " ++ (folder.now ++ (codes ": waiting up to " ++ (decimal wait ++ codes " seconds for it")))
 notice_text (Serving places count units workers) =
     codes "vtl: serving at " ++ (places.now ++ (codes ": " ++ (decimal units
     ++ (codes " units, " ++ (decimal workers ++ (codes " worker" ++ (plural workers ++ at_each count)))))))

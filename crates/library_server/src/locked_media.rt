@@ -2,7 +2,6 @@
 
 ghost use Rattle.std.specs.Prelude.{◌≡◌, None, IfOk};
 
-use crate::notice::{Notice, tell};
 use command_line::MediaOptions;
 use media_folder::{FolderFault, LibraryFolder, WantedLibrary, lock_folder};
 use std::io::Write;
@@ -36,6 +35,14 @@ pub(crate) fn locked_media<R: Clock + Wait, E: Write>(
     }
 }
 
+/// Tells for how long a folder is waited for. Where the line can't be written there is nobody to tell.
+fn tell_wait<E: Write>(errors: &mut E, folder: &str, wait: u32) {
+    let _ = writeln!(
+        errors,
+        "vtl: another program has {folder}: waiting up to {wait} seconds for it"
+    );
+}
+
 fn locked<R: Clock + Wait, E: Write>(
     rt: &R,
     files: &HostRuntime,
@@ -62,7 +69,7 @@ fn locked<R: Clock + Wait, E: Write>(
             Err(fault) => return Err(fault),
         }
         if turn == 0 {
-            tell(errors, &Notice::Waiting { folder: path, wait });
+            tell_wait(errors, path, wait);
         }
         thread::sleep(rt, Duration::from_millis(PAUSE));
     }

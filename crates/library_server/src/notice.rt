@@ -10,11 +10,6 @@ use std::io::{self, Write};
 pub(crate) enum Notice<'a> {
     /// The file at this path was taken away.
     TookAway(&'a str),
-    /// Another program has the folder, for which it is waited so many seconds.
-    Waiting {
-        folder: &'a str,
-        wait: u32,
-    },
     /// Hosts can connect at so many places, to a library of so many units, by so many workers at each.
     Serving {
         places: &'a str,
@@ -49,10 +44,6 @@ impl<'a> fmt::Display for Notice<'a> {
     fn fmt<W: fmt::Write>(&self, f: &mut fmt::Formatter<W>) -> fmt::Result {
         match self {
             Notice::TookAway(path) => write!(f, "vtl: removed {path}: nobody listened there"),
-            Notice::Waiting { folder, wait } => write!(
-                f,
-                "vtl: another program has {folder}: waiting up to {wait} seconds for it"
-            ),
             Notice::Serving {
                 places,
                 count,
