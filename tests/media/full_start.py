@@ -26,7 +26,7 @@ def in_drive(tried: Tried, image: bytes) -> Folder:
 
 
 def is_protected(folder: Folder, calls: FailingCalls, file: str, *objects: bytes | None) -> None:
-    """The volume is served as it is, write-protected; nothing of its file changes, and no part of a tail is left."""
+    """The volume is served as it is, write-protected, and nothing of its file and of its record changes."""
     left, record = folder.bytes_of(FIRST), folder.bytes_of(RECORD)
     with folder.served(environment=calls.environment) as server:
         why = f"vtl: {folder.path_of(FIRST)}: cannot write {folder.path_of(file)}: {NO_ROOM}: {UNTIL}"
@@ -38,7 +38,6 @@ def is_protected(folder: Folder, calls: FailingCalls, file: str, *objects: bytes
         ended(server)
     folder.same_image("the image that is left", FIRST, left)
     same("the record that is left", folder.bytes_of(RECORD), record)
-    same("what is in the folder", folder.names(), [*with_records(FIRST), TOML])
 
 
 def of_a_tail(tried: Tried) -> None:
@@ -49,6 +48,7 @@ def of_a_tail(tried: Tried) -> None:
         calls = FailingCalls(tried)
         calls.fail(call, f"/{TAIL}", errno.ENOSPC)
         is_protected(folder, calls, TAIL, b"hi", None)
+        same("what is in the folder", folder.names(), [*with_records(FIRST), TOML])
     with folder.served() as server:
         holds("what is reported once there is room", server.reported.text, f"were moved to {folder.path_of(TAIL)}\n")
         host = Host(server)
@@ -65,17 +65,7 @@ def of_a_record(tried: Tried) -> None:
     for call in ["open", "write", "fsync"]:
         calls = FailingCalls(tried)
         calls.fail(call, f"/{RECORD}.new", errno.ENOSPC)
-        left, record = folder.bytes_of(FIRST), folder.bytes_of(RECORD)
-        with folder.served(environment=calls.environment) as server:
-            why = f"vtl: {folder.path_of(FIRST)}: cannot write {folder.path_of(RECORD)}: {NO_ROOM}: {UNTIL}"
-            same("what is reported", server.reported_lines(), [why])
-            host = Host(server)
-            host.meets(DRIVE)
-            host.reads(b"hi", None)
-            host.asks(DRIVE, write(1), WRITE_PROTECTED, b"\1")
-            ended(server)
-        folder.same_image("the image that is left", FIRST, left)
-        same("the record that is left", folder.bytes_of(RECORD), record)
+        is_protected(folder, calls, RECORD, b"hi", None)
 
 
 def of_the_inventory(tried: Tried) -> None:
